@@ -5,8 +5,8 @@ use Rattle.std.specs.declared.alloc.Global.{Global}
 use Rattle.fab_base.specs.Seen.{Seen}
 use Rattle.fab_base.specs.Sunk.{Sunk}
 use Rattle.pcap_file.specs.declared.fault.LimitKind.{LimitKind}
-use Rattle.fabric_tool.specs.Command.{Command, Help, KeepsOthers, command}
-use Rattle.fabric_tool.specs.Ends.{Holds, HoldsFor, TakesMemory, Reports, Ends, meaning}
+use Rattle.fabric_tool.specs.Command.{Command, Help, command}
+use Rattle.fabric_tool.specs.Ends.{Holds, HoldsFor, TakesMemory, Reports, Ends, meaning, KeepsOthers}
 use Rattle.fabric_tool.specs.Outcome.{status_of}
 use Rattle.fabric_tool.specs.Statuses.{HasFront, HasForms, IsQuiet, Says}
 use Rattle.fabric_tool.specs.declared.outcome.Outcome.{Outcome}
@@ -59,17 +59,17 @@ never_words k old new h = h
 module _ (k : Command) (old new : Seen) where
   -- no file but the outputs has changed, whatever the outcome
   pub others_kept : (o : Outcome) → Holds k old new o → KeepsOthers k old new
-  others_kept o = kept k old new ((meaning k).end old new o)
+  others_kept o = kept (meaning k) old new ((meaning k).end old new o)
 
   pub front_of : IsTrue old.told → (o : Outcome) → Holds k old new o → HasFront k old new
-  front_of told o holds = elim (left k old new told ((meaning k).end old new o) holds) [
+  front_of told o holds = elim (left (meaning k) old new told ((meaning k).end old new o) holds) [
     | inl files ↦ (laws k).same old new files
     | inr written ↦ (laws k).whole old new o written
   ]
 
   module _ (before after : Sunk) (quiet : IsQuiet k old new before after) where
     answer : (o : Outcome) → Holds k old new o → Said old ((meaning k).end old new o)
-    answer o = said k old new quiet.reads quiet.writes ((meaning k).end old new o)
+    answer o = said (meaning k) old new quiet.reads quiet.writes ((meaning k).end old new o)
 
     -- a command ends as its inputs say, where nothing fails
     pub said_end : IsTrue old.told → (p : Outcome) → Says k old p → (o : Outcome) → Holds k old new o → PrintsAlike o p ⊎ (o ≡ ends.Memory)

@@ -19,9 +19,10 @@ use Rattle.fab_replay.specs.Check.{Matter, NamesRun, IsAccepted, IsFirstOutput, 
 use Rattle.fab_replay.specs.Counts as counts
 use Rattle.fab_replay.specs.declared.fault.CheckFault.{CheckFault}
 use Rattle.fab_replay.specs.declared.fault.CheckFault.TheVariants as checks
-use Rattle.fabric_tool.specs.Checking.{budget_of, output_in, matter_of, HasMatter, HasGiven, Finds, IsStanding, IsUnread, IsChecked, AreOpenInputs, command_of, refused_by}
-use Rattle.fabric_tool.specs.Command.{ReadRose, are_ports, names_of, ins_of, count_of, input_of}
+use Rattle.fabric_tool.specs.Checking.{budget_of, output_in, matter_of, HasMatter, HasGiven, Finds, IsStanding, IsUnread, IsChecked, AreOpenInputs, reads_of, refused_by}
+use Rattle.fabric_tool.specs.Command.{are_ports, names_of, ins_of, count_of, input_of}
 use Rattle.run_files.specs.Names.{Among, AnyRose}
+use Rattle.fabric_tool.specs.Ending.{ReadRose}
 use Rattle.fabric_tool.specs.Inputs.{AreOpened, MOST_BYTES, MOST_FRAMES}
 use Rattle.fabric_tool.specs.Reading.{AreHeads, HeadsRead, HeadsEnd}
 use Rattle.fabric_tool.specs.declared.command.Width.{Width}
@@ -82,11 +83,11 @@ rose_nothing before now (x ∷ xs) (inl rose) = inl rose
 rose_nothing before now (x ∷ xs) (inr rose) = inr (rose_nothing before now xs rose)
 
 -- a count of a capture or of an output is one of an input of the command
-rose_of : (w : Width) (words : List (String Global)) (a z : Seen) → AnyRose a.read_faults z.read_faults (ins_of w words ++ (names_of w words).outs) → ReadRose (command_of w (names_of w words)) a z
+rose_of : (w : Width) (words : List (String Global)) (a z : Seen) → AnyRose a.read_faults z.read_faults (ins_of w words ++ (names_of w words).outs) → ReadRose (reads_of w (names_of w words)) a z
 rose_of widths.One words a z rose = inr (inr (rose_nothing a.read_faults z.read_faults (ins_of widths.One words) rose))
 rose_of widths.Two words a z rose = inr (inr rose)
 
-pub rose_given : (w : Width) (words : List (String Global)) (a z : Seen) → AnyRose a.read_faults z.read_faults ((names_of w words).config ∷ (names_of w words).journal ∷ []) → ReadRose (command_of w (names_of w words)) a z
+pub rose_given : (w : Width) (words : List (String Global)) (a z : Seen) → AnyRose a.read_faults z.read_faults ((names_of w words).config ∷ (names_of w words).journal ∷ []) → ReadRose (reads_of w (names_of w words)) a z
 rose_given widths.One words a z (inl rose) = inl rose
 rose_given widths.One words a z (inr (inl rose)) = inr (inl rose)
 rose_given widths.One words a z (inr (inr rose)) = absurd rose

@@ -5,15 +5,14 @@ use Rattle.fab_base.specs.Seen.{Seen, SameFiles}
 use Rattle.fab_base.specs.Sunk.{Sunk}
 use Rattle.fab_vectors.specs.Making.{file_text}
 use Rattle.run_files.specs.declared.fault.RunFault.TheVariants as faults
-use Rattle.fabric_tool.specs.Checking.{ReplaySays, ShowSays, replay_end, show_end, ReplayHolds, ShowHolds, ReplayEnded, ShowEnded, replay_meaning, show_meaning}
+use Rattle.fabric_tool.specs.Checking.{ReplaySays, ShowSays, replay_end, show_end, ReplayEnded, ShowEnded, replay_meaning, show_meaning}
 use Rattle.fabric_tool.specs.Command.{RunNames, MakeNames, Command, Run, Replay, Show, Convert, Migrate, Make, Snoop, Enode, Live, Help, Version}
-use Rattle.fabric_tool.specs.Ending.{EndsBy}
-use Rattle.fabric_tool.specs.Ends.{TakesMemory, meaning}
+use Rattle.fabric_tool.specs.Ends.{TakesMemory, meaning, Holds}
 use Rattle.fabric_tool.specs.Help.{help_text, version_text}
 use Rattle.fabric_tool.specs.Left.{HasFrontPart}
-use Rattle.fabric_tool.specs.Load.{LOAD, HasLoad, HasLoadFront, MakeHolds, MakeEnded, make_end, make_meaning}
+use Rattle.fabric_tool.specs.Load.{LOAD, HasLoad, HasLoadFront, MakeEnded, make_end, make_meaning}
 use Rattle.fabric_tool.specs.Outcome.{status_of, line_of, made_text}
-use Rattle.fabric_tool.specs.Running.{run_end, RunHolds, RunEnded, run_meaning}
+use Rattle.fabric_tool.specs.Running.{run_end, RunEnded, run_meaning}
 use Rattle.fabric_tool.specs.Texts.{TextEnded, help_end, version_end, help_meaning, version_meaning}
 use Rattle.fabric_tool.specs.declared.outcome.Outcome.{Outcome}
 use Rattle.fabric_tool.specs.declared.outcome.Outcome.TheVariants as ends
@@ -39,23 +38,23 @@ run_front k old new ends.WriteFault h = h
 run_front k old new ends.Memory h = h
 run_front k old new o h = absurd h
 
-run_answered : (k : RunNames) (old new : Seen) (o : Outcome) → RunHolds k old new o → TakesMemory o → IsAnswer (run_end k old new o)
+run_answered : (k : RunNames) (old new : Seen) (o : Outcome) → Holds (Run k) old new o → TakesMemory o → IsAnswer (run_end k old new o)
 run_answered k old new (ends.Ran frames entries) h takes = tt
 run_answered k old new (ends.Config fault) h takes = tt
 run_answered k old new (ends.Capture port at reason) h takes = tt
 run_answered k old new (ends.Limit kind) h takes = tt
 run_answered k old new o h takes = absurd (omega arith)
 
-done_run : (k : RunNames) (old new : Seen) (before after : Sunk) (o : Outcome) → status_of o ≡ 0 → RunHolds k old new o → (IsTrue before.told → after.written ≡ before.written ++ line_of o) → IsTrue old.told → RunEnded k old new before after
+done_run : (k : RunNames) (old new : Seen) (before after : Sunk) (o : Outcome) → status_of o ≡ 0 → Holds (Run k) old new o → (IsTrue before.told → after.written ≡ before.written ++ line_of o) → IsTrue old.told → RunEnded k old new before after
 unfolding line_of
 done_run k old new before after (ends.Ran frames entries) is h printed = λ told. record { frames = frames; entries = entries; run = h.1 told; printed = printed }
 done_run k old new before after o is h printed = absurd (omega arith)
 
-run_laws : (k : RunNames) → Laws (Run k) (run_meaning k)
+run_laws : (k : RunNames) → Laws (run_meaning k)
 run_laws k = record {
   same = λ old new files. inl files;
   whole = run_front k;
-  spare = λ old new o h takes. less (Run k) old new (SameFiles old new ⊎ HasFrontPart k old new) (λ files. inl files) (run_end k old new o) (run_answered k old new o h takes) (run_front k old new o) h;
+  spare = λ old new o h takes. less (run_meaning k) old new (SameFiles old new ⊎ HasFrontPart k old new) (λ files. inl files) (run_end k old new o) (run_answered k old new o h takes) (run_front k old new o) h;
   done = done_run k;
   once = λ old new o p told h says. elim (run_once k old new told o p h says) [ inl is ↦ inl (alike o p is) | inr memory ↦ inr memory ];
   formed = λ old new o forms. run_formed k old new forms.told forms o;
@@ -67,7 +66,7 @@ replay_whole : (k : RunNames) (old new : Seen) (o : Outcome) → Left (replay_en
 replay_whole k old new ends.Memory h = absurd h
 replay_whole k old new o h = absurd h
 
-replay_closed : (k : RunNames) (old new : Seen) (o : Outcome) → ReplayHolds k old new o → TakesMemory o → IsClosed (replay_end k old new o)
+replay_closed : (k : RunNames) (old new : Seen) (o : Outcome) → Holds (Replay k) old new o → TakesMemory o → IsClosed (replay_end k old new o)
 replay_closed k old new (ends.Legal entries) h takes = tt
 replay_closed k old new (ends.WrongLine line why) h takes = tt
 replay_closed k old new (ends.WrongOutput port at) h takes = tt
@@ -86,16 +85,16 @@ replay_says k old new told (ends.Limit kind) h = inl (h told)
 replay_says k old new told ends.Memory h = inr refl
 replay_says k old new told o h = absurd h
 
-done_replay : (k : RunNames) (old new : Seen) (before after : Sunk) (o : Outcome) → status_of o ≡ 0 → ReplayHolds k old new o → (IsTrue before.told → after.written ≡ before.written ++ line_of o) → IsTrue old.told → ReplayEnded k old new before after
+done_replay : (k : RunNames) (old new : Seen) (before after : Sunk) (o : Outcome) → status_of o ≡ 0 → Holds (Replay k) old new o → (IsTrue before.told → after.written ≡ before.written ++ line_of o) → IsTrue old.told → ReplayEnded k old new before after
 unfolding line_of
 done_replay k old new before after (ends.Legal entries) is h printed = λ told. record { entries = entries; files = h.0; legal = h.1 told; printed = printed }
 done_replay k old new before after o is h printed = absurd (omega arith)
 
-replay_laws : (k : RunNames) → Laws (Replay k) (replay_meaning k)
+replay_laws : (k : RunNames) → Laws (replay_meaning k)
 replay_laws k = record {
   same = λ old new files. files;
   whole = replay_whole k;
-  spare = λ old new o h takes. nothing (Replay k) old new (replay_end k old new o) (replay_closed k old new o h takes) h;
+  spare = λ old new o h takes. nothing (replay_meaning k) old new (replay_end k old new o) (replay_closed k old new o h takes) h;
   done = done_replay k;
   once = λ old new o p told h says. elim (replay_says k old new told o h) [ inl mine ↦ inl (replay_one k old o p mine says) | inr memory ↦ inr memory ];
   formed = λ old new o forms h. elim (replay_says k old new forms.0 o h) [ inl mine ↦ inl (ap status_of (only_legal k old forms.1 forms.2 o mine)) | inr memory ↦ inr memory ];
@@ -105,7 +104,7 @@ show_whole : (k : RunNames) (old new : Seen) (o : Outcome) → Left (show_end k 
 show_whole k old new ends.Memory h = absurd h
 show_whole k old new o h = absurd h
 
-show_closed : (k : RunNames) (old new : Seen) (o : Outcome) → ShowHolds k old new o → TakesMemory o → IsClosed (show_end k old new o)
+show_closed : (k : RunNames) (old new : Seen) (o : Outcome) → Holds (Show k) old new o → TakesMemory o → IsClosed (show_end k old new o)
 show_closed k old new (ends.WrongLine line why) h takes = tt
 show_closed k old new (ends.WrongOutput port at) h takes = tt
 show_closed k old new (ends.Config fault) h takes = tt
@@ -123,16 +122,16 @@ show_says k old new told (ends.Limit kind) h = inl (h told)
 show_says k old new told ends.Memory h = inr refl
 show_says k old new told o h = absurd h
 
-done_show : (k : RunNames) (old new : Seen) (before after : Sunk) (o : Outcome) → status_of o ≡ 0 → ShowHolds k old new o → (IsTrue before.told → after.written ≡ before.written ++ line_of o) → IsTrue old.told → ShowEnded k old new before after
+done_show : (k : RunNames) (old new : Seen) (before after : Sunk) (o : Outcome) → status_of o ≡ 0 → Holds (Show k) old new o → (IsTrue before.told → after.written ≡ before.written ++ line_of o) → IsTrue old.told → ShowEnded k old new before after
 unfolding line_of
 done_show k old new before after (ends.Shown text) is h printed = λ told. record { text = text; files = h.0; shown = h.1 told; printed = printed }
 done_show k old new before after o is h printed = absurd (omega arith)
 
-show_laws : (k : RunNames) → Laws (Show k) (show_meaning k)
+show_laws : (k : RunNames) → Laws (show_meaning k)
 show_laws k = record {
   same = λ old new files. files;
   whole = show_whole k;
-  spare = λ old new o h takes. nothing (Show k) old new (show_end k old new o) (show_closed k old new o h takes) h;
+  spare = λ old new o h takes. nothing (show_meaning k) old new (show_end k old new o) (show_closed k old new o h takes) h;
   done = done_show k;
   once = λ old new o p told h says. elim (show_says k old new told o h) [ inl mine ↦ inl (show_one k old o p mine says) | inr memory ↦ inr memory ];
   formed = λ old new o forms h. elim (show_says k old new forms.0 o h) [ inl mine ↦ inl (ap status_of (only_shown k old forms.1 forms.2 o mine)) | inr memory ↦ inr memory ];
@@ -150,11 +149,11 @@ make_front k old new ends.WriteFault h = h
 make_front k old new ends.Memory h = h
 make_front k old new o h = absurd h
 
-make_answered : (k : MakeNames) (old new : Seen) (o : Outcome) → MakeHolds k old new o → TakesMemory o → IsAnswer (make_end k old new o)
+make_answered : (k : MakeNames) (old new : Seen) (o : Outcome) → Holds (Make k) old new o → TakesMemory o → IsAnswer (make_end k old new o)
 make_answered k old new (ends.Made frames) h takes = tt
 make_answered k old new o h takes = absurd (omega arith)
 
-done_make : (k : MakeNames) (old new : Seen) (before after : Sunk) (o : Outcome) → status_of o ≡ 0 → MakeHolds k old new o → (IsTrue before.told → after.written ≡ before.written ++ line_of o) → IsTrue old.told → MakeEnded k new before after
+done_make : (k : MakeNames) (old new : Seen) (before after : Sunk) (o : Outcome) → status_of o ≡ 0 → Holds (Make k) old new o → (IsTrue before.told → after.written ≡ before.written ++ line_of o) → IsTrue old.told → MakeEnded k new before after
 unfolding line_of
 done_make k old new before after (ends.Made frames) is h printed = λ told. record { load = h.1.1 told; printed = λ sunk. printed sunk ∙ ap (λ (n : ℕ). before.written ++ made_text n) h.0 }
 done_make k old new before after o is h printed = absurd (omega arith)
@@ -164,11 +163,11 @@ load_end k old new (ends.Made frames) h = inl (ap (λ (n : ℕ). ends.Made n) h.
 load_end k old new ends.Memory h = inr refl
 load_end k old new o h = absurd h
 
-make_laws : (k : MakeNames) → Laws (Make k) (make_meaning k)
+make_laws : (k : MakeNames) → Laws (make_meaning k)
 make_laws k = record {
   same = λ old new files q lt. inl (files _);
   whole = make_front k;
-  spare = λ old new o h takes. less (Make k) old new (HasLoadFront k old new) (λ files q lt. inl (files _)) (make_end k old new o) (make_answered k old new o h takes) (make_front k old new o) h;
+  spare = λ old new o h takes. less (make_meaning k) old new (HasLoadFront k old new) (λ files q lt. inl (files _)) (make_end k old new o) (make_answered k old new o h takes) (make_front k old new o) h;
   done = done_make k;
   once = λ old new o p told h says. elim (load_end k old new o h) [ inl is ↦ inl (alike o p (is ∙ sym says)) | inr memory ↦ inr memory ];
   formed = λ old new o forms h. elim (load_end k old new o h) [ inl is ↦ inl (ap status_of is) | inr memory ↦ inr memory ];
@@ -184,16 +183,16 @@ help_whole : (old new : Seen) (o : Outcome) → Left (help_end old new o) → Sa
 help_whole old new ends.Help h = absurd h
 help_whole old new o h = absurd h
 
-help_spare : (old new : Seen) (o : Outcome) → EndsBy Help old new (help_end old new o) → TakesMemory o → EndsBy Help old new (help_end old new ends.Memory)
+help_spare : (old new : Seen) (o : Outcome) → Holds Help old new o → TakesMemory o → Holds Help old new ends.Memory
 help_spare old new ends.Help h takes = absurd takes
 help_spare old new o h takes = absurd h
 
-done_help : (old new : Seen) (before after : Sunk) (o : Outcome) → status_of o ≡ 0 → EndsBy Help old new (help_end old new o) → (IsTrue before.told → after.written ≡ before.written ++ line_of o) → TextEnded help_text old new before after
+done_help : (old new : Seen) (before after : Sunk) (o : Outcome) → status_of o ≡ 0 → Holds Help old new o → (IsTrue before.told → after.written ≡ before.written ++ line_of o) → TextEnded help_text old new before after
 unfolding line_of
 done_help old new before after ends.Help is h printed = record { untouched = (h.1.0, h.0, h.1.2); printed = printed }
 done_help old new before after o is h printed = absurd h
 
-help_laws : Laws Help help_meaning
+help_laws : Laws help_meaning
 help_laws = record {
   same = λ old new files. files;
   whole = help_whole;
@@ -211,16 +210,16 @@ version_whole : (old new : Seen) (o : Outcome) → Left (version_end old new o) 
 version_whole old new ends.Version h = absurd h
 version_whole old new o h = absurd h
 
-version_spare : (old new : Seen) (o : Outcome) → EndsBy Version old new (version_end old new o) → TakesMemory o → EndsBy Version old new (version_end old new ends.Memory)
+version_spare : (old new : Seen) (o : Outcome) → Holds Version old new o → TakesMemory o → Holds Version old new ends.Memory
 version_spare old new ends.Version h takes = absurd takes
 version_spare old new o h takes = absurd h
 
-done_version : (old new : Seen) (before after : Sunk) (o : Outcome) → status_of o ≡ 0 → EndsBy Version old new (version_end old new o) → (IsTrue before.told → after.written ≡ before.written ++ line_of o) → TextEnded version_text old new before after
+done_version : (old new : Seen) (before after : Sunk) (o : Outcome) → status_of o ≡ 0 → Holds Version old new o → (IsTrue before.told → after.written ≡ before.written ++ line_of o) → TextEnded version_text old new before after
 unfolding line_of
 done_version old new before after ends.Version is h printed = record { untouched = (h.1.0, h.0, h.1.2); printed = printed }
 done_version old new before after o is h printed = absurd h
 
-version_laws : Laws Version version_meaning
+version_laws : Laws version_meaning
 version_laws = record {
   same = λ old new files. files;
   whole = version_whole;
@@ -232,7 +231,7 @@ version_laws = record {
 
 -- ---- each
 
-pub laws : (k : Command) → Laws k (meaning k)
+pub laws : (k : Command) → Laws (meaning k)
 laws (Run k) = run_laws k
 laws (Replay k) = replay_laws k
 laws (Show k) = show_laws k

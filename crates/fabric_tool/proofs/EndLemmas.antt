@@ -4,8 +4,8 @@ use Rattle.std.proofs.lemmas.List.{take_all}
 use Rattle.std.specs.declared.alloc.Global.{Global}
 use Rattle.fab_base.specs.Seen.{Seen, Rose}
 use Rattle.fab_base.specs.Sunk.{Sunk}
-use Rattle.fabric_tool.specs.Command.{Command, KeepsOthers, command}
-use Rattle.fabric_tool.specs.Ends.{Holds, HoldsFor, Prints, Puts, Ends}
+use Rattle.fabric_tool.specs.Command.{Command, command}
+use Rattle.fabric_tool.specs.Ends.{Holds, HoldsFor, Prints, Puts, Ends, KeepsOthers}
 use Rattle.fabric_tool.specs.Outcome.{status_of, line_of}
 use Rattle.fabric_tool.specs.Texts.{IsUntouched}
 use Rattle.fabric_tool.specs.Rechecking.{IsRechecked, IsReplayed}

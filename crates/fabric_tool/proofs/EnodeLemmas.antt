@@ -19,9 +19,9 @@ use Rattle.enode_run.specs.Files.{IsUntaken, Same, Front, RunsNode, node_task, t
 use Rattle.run_files.specs.Faults.{fault_from, run_end}
 use Rattle.run_files.specs.declared.fault.RunFault.{RunFault}
 use Rattle.run_files.specs.declared.fault.RunFault.TheVariants as faults
-use Rattle.fabric_tool.specs.Command.{EnodeNames, Enode, KeepsOthers}
-use Rattle.fabric_tool.specs.Ends.{TakesMemory}
-use Rattle.fabric_tool.specs.Enode.{task_of, HasPlayed, HasEnodeFront, enode_end, EnodeHolds, EnodeEnded, EnodeForms, EnodeSays, enode_meaning}
+use Rattle.fabric_tool.specs.Command.{EnodeNames, Enode}
+use Rattle.fabric_tool.specs.Ends.{TakesMemory, Holds, KeepsOthers}
+use Rattle.fabric_tool.specs.Enode.{task_of, HasPlayed, HasEnodeFront, enode_end, EnodeEnded, EnodeForms, EnodeSays, enode_meaning}
 use Rattle.fabric_tool.specs.Inputs.{LIMITS}
 use Rattle.fabric_tool.specs.Opening.{stopped_by, stood_by}
 use Rattle.fabric_tool.specs.Outcome.{status_of, line_of}
@@ -45,7 +45,7 @@ enode_front k old new ends.WriteFault h = h
 enode_front k old new o h = absurd h
 
 -- the line of a last phase takes no memory
-enode_closed : (k : EnodeNames) (old new : Seen) (o : Outcome) → EnodeHolds k old new o → TakesMemory o → IsClosed (enode_end k old new o)
+enode_closed : (k : EnodeNames) (old new : Seen) (o : Outcome) → Holds (Enode k) old new o → TakesMemory o → IsClosed (enode_end k old new o)
 enode_closed k old new (ends.Capture port at reason) h takes = tt
 enode_closed k old new (ends.Limit kind) h takes = tt
 enode_closed k old new o h takes = absurd (omega arith)
@@ -116,16 +116,16 @@ module _ (k : EnodeNames) (d : Seen) where
 
 -- ---- the laws
 
-done_enode : (k : EnodeNames) (old new : Seen) (before after : Sunk) (o : Outcome) → status_of o ≡ 0 → EnodeHolds k old new o → (IsTrue before.told → after.written ≡ before.written ++ line_of o) → IsTrue old.told → EnodeEnded k old new before after
+done_enode : (k : EnodeNames) (old new : Seen) (before after : Sunk) (o : Outcome) → status_of o ≡ 0 → Holds (Enode k) old new o → (IsTrue before.told → after.written ≡ before.written ++ line_of o) → IsTrue old.told → EnodeEnded k old new before after
 unfolding line_of
 done_enode k old new before after (ends.Stood last) is h printed = λ told. record { last = last; done = h.1 told; printed = printed }
 done_enode k old new before after o is h printed = absurd (omega arith)
 
-pub enode_laws : (k : EnodeNames) → Laws (Enode k) (enode_meaning k)
+pub enode_laws : (k : EnodeNames) → Laws (enode_meaning k)
 enode_laws k = record {
   same = λ old new files. Same (files k.to);
   whole = enode_front k;
-  spare = λ old new o h takes. nothing (Enode k) old new (enode_end k old new o) (enode_closed k old new o h takes) h;
+  spare = λ old new o h takes. nothing (enode_meaning k) old new (enode_end k old new o) (enode_closed k old new o h takes) h;
   done = done_enode k;
   once = λ old new o p told. enode_once k old new told o p;
   formed = λ old new o forms. enode_formed k old new forms.told forms o;
@@ -137,7 +137,7 @@ module _ (k : EnodeNames) (a b : Seen) where
   keeps : ((m : List ℕ) → ¬ Only k.to m → b.file m ≡ a.file m) → KeepsOthers (Enode k) a b
   keeps others m none = others m (λ e. differs k.to m (or_false (bytes_eq k.to m) _ none).0 (sym e))
 
-  ran : (r : Result Phase RunFault) → RunsNode (task_of k) a b r → Uses (Only k.from) (Only k.to) (end_by run_end r) a b → EnodeHolds k a b (stood_by r)
+  ran : (r : Result Phase RunFault) → RunsNode (task_of k) a b r → Uses (Only k.from) (Only k.to) (end_by run_end r) a b → Holds (Enode k) a b (stood_by r)
   ran (Ok last) runs u = (keeps u.touches.files, runs, u.counts)
   ran (Err (faults.Capture port at why)) runs u = (runs.0, runs.1, u.counts)
   ran (Err (faults.Limit kind)) runs u = (runs.0, runs.1, u.counts)
@@ -147,8 +147,8 @@ module _ (k : EnodeNames) (a b : Seen) where
 
 -- the files that words name
 pub ran_as : (from to : List ℕ) (k : EnodeNames) (a b : Seen) (r : Result Phase RunFault) (o : Outcome) → from ≡ k.from → to ≡ k.to →
-    RunsNode (node_task k.own k.start from to LIMITS) a b r → Uses (Only from) (Only to) (end_by run_end r) a b → o ≡ stood_by r → EnodeHolds k a b o
+    RunsNode (node_task k.own k.start from to LIMITS) a b r → Uses (Only from) (Only to) (end_by run_end r) a b → o ≡ stood_by r → Holds (Enode k) a b o
 ran_as from to k a b r o from_is to_is runs uses is =
     let there = subst (λ l. RunsNode (node_task k.own k.start k.from l LIMITS) a b r) to_is (subst (λ l. RunsNode (node_task k.own k.start l to LIMITS) a b r) from_is runs) in
     let used = subst (λ l. Uses (Only k.from) (Only l) (end_by run_end r) a b) to_is (subst (λ l. Uses (Only l) (Only to) (end_by run_end r) a b) from_is uses) in
-    subst (EnodeHolds k a b) (sym is) (ran k a b r there used)
+    subst (Holds (Enode k) a b) (sym is) (ran k a b r there used)

@@ -17,8 +17,8 @@ use Rattle.fab_migrate.specs.declared.old.OldError.{OldError}
 use Rattle.fab_migrate.specs.declared.old.OldError.TheVariants as olds
 use Rattle.fab_migrate.specs.declared.old.MigrateError.{MigrateError}
 use Rattle.fab_migrate.specs.declared.old.MigrateError.TheVariants as moves
-use Rattle.fabric_tool.specs.Command.{PairNames, Convert, KeepsOthers}
-use Rattle.fabric_tool.specs.Pairs.{ConvertHolds, MigrateHolds}
+use Rattle.fabric_tool.specs.Command.{PairNames, Convert, Migrate}
+use Rattle.fabric_tool.specs.Ends.{Holds, KeepsOthers}
 use Rattle.fabric_tool.specs.Inputs.{LIMITS, MOST_BYTES}
 use Rattle.fabric_tool.specs.Reading.{unconverted_by, unmigrated_by}
 use Rattle.fabric_tool.specs.declared.outcome.Outcome.{Outcome}
@@ -32,22 +32,22 @@ others_keep k a b others m none = others m (λ e. differs k.to m (or_false (byte
 module _ (k : PairNames) (a b : Seen) where
   -- ---- `convert`
 
-  pub output_written : (records : ℕ) → Converts k.from k.to LIMITS a b (Ok records) → Uses (Only k.from) (Only k.to) Said a b → ConvertHolds k a b (ends.Converted records)
+  pub output_written : (records : ℕ) → Converts k.from k.to LIMITS a b (Ok records) → Uses (Only k.from) (Only k.to) Said a b → Holds (Convert k) a b (ends.Converted records)
   output_written records c u = (others_keep k a b u.touches.files, c, u.counts)
 
-  not_converted : (e : NgError) → Converts k.from k.to LIMITS a b (Err (errors.Input e)) → Uses (Only k.from) (Only k.to) (ng_end e) a b → ConvertHolds k a b (unconverted_by e)
+  not_converted : (e : NgError) → Converts k.from k.to LIMITS a b (Err (errors.Input e)) → Uses (Only k.from) (Only k.to) (ng_end e) a b → Holds (Convert k) a b (unconverted_by e)
   not_converted (ng.Fault at fault) c u = (c.0, c.1, u.counts)
   not_converted (ng.Limit limit) c u = (c.0, λ told. (limit, refl, c.1 told), u.counts)
   not_converted (ng.Read failed) c u = (c.0, inl (rose_only k.from a.read_faults b.read_faults u.counts.0), λ told. tt, u.counts.1)
   not_converted ng.Memory c u = ((λ m none. c.0 m), λ told. Same (c.0 k.to), u.counts)
 
-  pub input_refused : (e : NgError) (o : Outcome) → o ≡ unconverted_by e → (x : ConvertError) → x ≡ errors.Input e → Converts k.from k.to LIMITS a b (Err x) → Uses (Only k.from) (Only k.to) (converting_end x) a b → ConvertHolds k a b o
+  pub input_refused : (e : NgError) (o : Outcome) → o ≡ unconverted_by e → (x : ConvertError) → x ≡ errors.Input e → Converts k.from k.to LIMITS a b (Err x) → Uses (Only k.from) (Only k.to) (converting_end x) a b → Holds (Convert k) a b o
   input_refused e o o_is x x_is c u =
-      subst (ConvertHolds k a b) (sym o_is)
+      subst (Holds (Convert k) a b) (sym o_is)
       (not_converted e (subst (λ (y : ConvertError). Converts k.from k.to LIMITS a b (Err y)) x_is c) (subst (λ (y : ConvertError). Uses (Only k.from) (Only k.to) (converting_end y) a b) x_is u))
 
   -- the output couldn't be written
-  pub output_failed : (failed : Failed) (x : ConvertError) → x ≡ errors.Write failed → Converts k.from k.to LIMITS a b (Err x) → Uses (Only k.from) (Only k.to) (converting_end x) a b → ConvertHolds k a b ends.WriteFault
+  pub output_failed : (failed : Failed) (x : ConvertError) → x ≡ errors.Write failed → Converts k.from k.to LIMITS a b (Err x) → Uses (Only k.from) (Only k.to) (converting_end x) a b → Holds (Convert k) a b ends.WriteFault
   output_failed failed x is c u =
       let w = subst (λ (y : ConvertError). Converts k.from k.to LIMITS a b (Err y)) is c in
       let v = subst (λ (y : ConvertError). Uses (Only k.from) (Only k.to) (converting_end y) a b) is u in
@@ -55,22 +55,22 @@ module _ (k : PairNames) (a b : Seen) where
 
   -- ---- `migrate`
 
-  pub journal_written : (entries : ℕ) → Migrates k.from k.to MOST_BYTES a b (Ok entries) → Uses (Only k.from) (Only k.to) Said a b → MigrateHolds k a b (ends.Migrated entries)
+  pub journal_written : (entries : ℕ) → Migrates k.from k.to MOST_BYTES a b (Ok entries) → Uses (Only k.from) (Only k.to) Said a b → Holds (Migrate k) a b (ends.Migrated entries)
   journal_written entries c u = (others_keep k a b u.touches.files, c, u.counts)
 
-  not_migrated : (e : OldError) → Migrates k.from k.to MOST_BYTES a b (Err (moves.Input e)) → Uses (Only k.from) (Only k.to) (old_end e) a b → MigrateHolds k a b (unmigrated_by e)
+  not_migrated : (e : OldError) → Migrates k.from k.to MOST_BYTES a b (Err (moves.Input e)) → Uses (Only k.from) (Only k.to) (old_end e) a b → Holds (Migrate k) a b (unmigrated_by e)
   not_migrated (olds.Fault line fault) c u = (c.0, c.1, u.counts)
   not_migrated olds.Bytes c u = (refl, (c.0, c.1, u.counts))
   not_migrated (olds.Read failed) c u = (c.0, inl (rose_only k.from a.read_faults b.read_faults u.counts.0), λ told. tt, u.counts.1)
   not_migrated olds.Memory c u = ((λ m none. c.0 m), λ told. Untouched (c.0 k.to), u.counts)
 
-  pub journal_refused : (e : OldError) (o : Outcome) → o ≡ unmigrated_by e → (x : MigrateError) → x ≡ moves.Input e → Migrates k.from k.to MOST_BYTES a b (Err x) → Uses (Only k.from) (Only k.to) (migrating_end x) a b → MigrateHolds k a b o
+  pub journal_refused : (e : OldError) (o : Outcome) → o ≡ unmigrated_by e → (x : MigrateError) → x ≡ moves.Input e → Migrates k.from k.to MOST_BYTES a b (Err x) → Uses (Only k.from) (Only k.to) (migrating_end x) a b → Holds (Migrate k) a b o
   journal_refused e o o_is x x_is c u =
-      subst (MigrateHolds k a b) (sym o_is)
+      subst (Holds (Migrate k) a b) (sym o_is)
       (not_migrated e (subst (λ (y : MigrateError). Migrates k.from k.to MOST_BYTES a b (Err y)) x_is c) (subst (λ (y : MigrateError). Uses (Only k.from) (Only k.to) (migrating_end y) a b) x_is u))
 
   -- the other file of a journal couldn't be written
-  pub journal_failed : (failed : Failed) (x : MigrateError) → x ≡ moves.Write failed → Migrates k.from k.to MOST_BYTES a b (Err x) → Uses (Only k.from) (Only k.to) (migrating_end x) a b → MigrateHolds k a b ends.WriteFault
+  pub journal_failed : (failed : Failed) (x : MigrateError) → x ≡ moves.Write failed → Migrates k.from k.to MOST_BYTES a b (Err x) → Uses (Only k.from) (Only k.to) (migrating_end x) a b → Holds (Migrate k) a b ends.WriteFault
   journal_failed failed x is c u =
       let w = subst (λ (y : MigrateError). Migrates k.from k.to MOST_BYTES a b (Err y)) is c in
       let v = subst (λ (y : MigrateError). Uses (Only k.from) (Only k.to) (migrating_end y) a b) is u in

@@ -6,10 +6,10 @@ use Rattle.pcapng_file.specs.declared.NgRecord.{NgRecord}
 use Rattle.pcapng_file.specs.declared.fault.NgWhy.{NgWhy}
 use Rattle.pcap_file.specs.declared.fault.LimitKind.{LimitKind}
 use Rattle.pcap_file.specs.declared.fault.LimitKind.TheVariants as kinds
-use Rattle.fabric_tool.specs.Command.{LiveWords, by_port}
-use Rattle.fabric_tool.specs.Ends.{TakesMemory}
+use Rattle.fabric_tool.specs.Command.{LiveWords, by_port, Live}
+use Rattle.fabric_tool.specs.Ends.{TakesMemory, Holds}
 use Rattle.fabric_tool.specs.Inputs.{LIMITS}
-use Rattle.fabric_tool.specs.Living.{session_of, all_came, HasLived, HasHalted, HasLiveFront, IsBegun, IsFaulty, IsNoPort, IsPast, IsLiveRefused, live_end, LiveHolds}
+use Rattle.fabric_tool.specs.Living.{session_of, all_came, HasLived, HasHalted, HasLiveFront, IsBegun, IsFaulty, IsNoPort, IsPast, IsLiveRefused, live_end}
 use Rattle.fabric_tool.specs.declared.outcome.Outcome.{Outcome}
 use Rattle.fabric_tool.specs.declared.outcome.Outcome.TheVariants as ends
 use Rattle.fabric_tool.proofs.EndingLemmas.{Left}
@@ -83,7 +83,7 @@ module _ (k : LiveWords) (old new : Seen) where
   live_front o h = absurd h
 
   -- want of memory for the line of an outcome says less
-  pub live_spare : (o : Outcome) → LiveHolds k old new o → TakesMemory o → LiveHolds k old new ends.Memory
+  pub live_spare : (o : Outcome) → Holds (Live k) old new o → TakesMemory o → Holds (Live k) old new ends.Memory
   live_spare (ends.Ran frames entries) h takes = (h.0, λ told. inr (inl (lived_begun frames entries (h.1 told))), h.2)
   live_spare (ends.Config fault) h takes = (λ m none. h.0 m, λ told. inl h.0, h.2)
   live_spare (ends.BadStream at why) h takes = (h.0, λ told. inr (inl (stream_begun at why (h.1 told))), h.2)

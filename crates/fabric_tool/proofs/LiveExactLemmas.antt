@@ -21,8 +21,9 @@ use Rattle.pcap_file.specs.declared.fault.LimitKind.TheVariants as kinds
 use Rattle.fab_live.specs.Arriving.{arrive, arrived, AllFaces, NoneTooLate, IsInSpan}
 use Rattle.fab_live.specs.Live.{BeginsWithin, Stops, left_behind}
 use Rattle.fabric_tool.specs.Command.{LiveWords, Live}
+use Rattle.fabric_tool.specs.Ends.{Holds}
 use Rattle.fabric_tool.specs.Inputs.{HasConfig, HasFault, LIMITS, MOST_BYTES, MOST_FRAMES}
-use Rattle.fabric_tool.specs.Living.{HasLived, HasHalt, IsFaulty, IsNoPort, IsPast, live_end, LiveHolds, LiveEnded, LiveForms, LiveSays, live_meaning}
+use Rattle.fabric_tool.specs.Living.{HasLived, HasHalt, IsFaulty, IsNoPort, IsPast, live_end, LiveEnded, LiveForms, LiveSays, live_meaning}
 use Rattle.fabric_tool.specs.Outcome.{status_of, line_of}
 use Rattle.fabric_tool.specs.declared.outcome.Outcome.{Outcome}
 use Rattle.fabric_tool.specs.declared.outcome.Outcome.TheVariants as ends
@@ -396,12 +397,12 @@ module _ (k : LiveWords) (d : Seen) where
 
 -- ---- the laws
 
-done_live : (k : LiveWords) (old new : Seen) (before after : Sunk) (o : Outcome) → status_of o ≡ 0 → LiveHolds k old new o → (IsTrue before.told → after.written ≡ before.written ++ line_of o) → IsTrue old.told → LiveEnded k old new before after
+done_live : (k : LiveWords) (old new : Seen) (before after : Sunk) (o : Outcome) → status_of o ≡ 0 → Holds (Live k) old new o → (IsTrue before.told → after.written ≡ before.written ++ line_of o) → IsTrue old.told → LiveEnded k old new before after
 unfolding line_of
 done_live k old new before after (ends.Ran frames entries) is h printed = λ told. record { frames = frames; entries = entries; lived = h.1 told; printed = printed }
 done_live k old new before after o is h printed = absurd (omega arith)
 
-pub live_laws : (k : LiveWords) → Laws (Live k) (live_meaning k)
+pub live_laws : (k : LiveWords) → Laws (live_meaning k)
 live_laws k = record {
   same = λ old new files. inl files;
   whole = live_front k;

@@ -1,18 +1,18 @@
 -- How `live` ends.
 use Rattle.std.proofs.Common.{◌≡◌, ℕ, zero, suc, ◌+◌, ◌-◌, ◌<◌, ◌≤◌, ◌^◌, ◌*◌, List, [], ◌∷◌, ◌++◌, ◌⊎◌, Bool, true, false, length, Some, Ok, Err, IsTrue, refl, sym, ap, ◌∙◌, subst, arith, inl, inr}
-use Rattle.std.specs.Prelude.{Result, String, map, filter, get_or, max, ◌==◌, if◌then◌else◌}
+use Rattle.std.specs.Prelude.{Result, String, map, get_or, max, ◌==◌}
 use Rattle.std.specs.declared.alloc.Global.{Global}
 use Rattle.fab_base.specs.Ending.{NoFaults}
 use Rattle.fab_base.specs.Places.{name_at}
-use Rattle.fab_base.specs.Seen.{Seen, SameFiles, Reads, Touches, Nothing, Only, OpensIn, Rose}
+use Rattle.fab_base.specs.Seen.{Seen, SameFiles, Reads, Touches, OpensIn, Rose}
 use Rattle.fab_base.specs.declared.values.Failed.{Failed}
-use Rattle.fab_base.proofs.SeenLemmas.{touches_wider, reads_touches, rose_later}
+use Rattle.fab_base.proofs.SeenLemmas.{reads_touches, rose_later}
 use Rattle.fab_config.specs.Settings.{Settings, is_in_range}
 use Rattle.pcap_file.specs.declared.Record.{Record}
 use Rattle.pcap_file.specs.declared.Budget.{Budget}
 use Rattle.pcap_file.specs.Capture.{IsCapture}
 use Rattle.pcapng_file.specs.declared.NgRecord.{NgRecord}
-use Rattle.pcapng_file.specs.File.{before_all, IsPacketKept, AreKept}
+use Rattle.pcapng_file.specs.File.{before_all, AreKept}
 use Rattle.pcapng_file.specs.Classic.{classic_bytes, timed, written, ReadsBack}
 use Rattle.fab_policy.specs.Growing.{NothingIsRun}
 use Rattle.fab_policy.specs.Journal.{Journal}
@@ -23,15 +23,13 @@ use Rattle.fab_policy.specs.Standing.{Contents}
 use Rattle.fab_policy.specs.Text.{text, egress}
 use Rattle.fab_policy.specs.Written.{IsPrefixOf}
 use Rattle.fab_policy.proofs.NamedLemmas.{text_names_journal}
-use Rattle.fab_base.specs.Slots.{slot_at, name_of, NameIn}
-use Rattle.pcap_file.specs.declared.fault.LimitKind.{LimitKind}
+use Rattle.fab_base.specs.Slots.{name_of, NameIn}
 use Rattle.pcap_file.specs.declared.fault.LimitKind.TheVariants as kinds
-use Rattle.fab_windows.specs.Files.{Written, Wholes, Fronts, InOrder, file_bytes, captures, text_so_far, captures_so_far}
-use Rattle.fab_windows.specs.Run.{IsRunOver}
+use Rattle.fab_windows.specs.Files.{InOrder, file_bytes, captures, text_so_far, captures_so_far}
 use Rattle.fab_windows.specs.declared.Done.{Done}
-use Rattle.fab_live.specs.Arriving.{arrive, arrived, of_face, recorded, port_records, records_of}
+use Rattle.fab_live.specs.Arriving.{arrived, of_face, recorded, port_records, records_of}
 use Rattle.fab_live.specs.Files.{LiveSlots, LiveNames, AreLive}
-use Rattle.fab_live.specs.Live.{AreGiven, HoldLive, HoldSome, IsLiveRun, LeftWhole, LeftBroken, LiveFinished, LiveEnds, LiveRuns, Begins}
+use Rattle.fab_live.specs.Live.{AreGiven, HoldLive, HoldSome, IsLiveRun, LeftWhole, LeftBroken, LiveFinished, LiveRuns, Begins}
 use Rattle.fab_live.specs.declared.fault.LiveFault.{LiveFault}
 use Rattle.fab_live.specs.declared.fault.LiveFault.TheVariants as fault
 use Rattle.fab_replay.proofs.OneLemmas.{same_frames}
@@ -41,9 +39,10 @@ use Rattle.fab_base.proofs.EndingLemmas.{none_then}
 use Rattle.run_files.proofs.NameLemmas.{rose_among, rose_since, length-counted, counted_among}
 use Rattle.run_files.proofs.OpenLemmas.{there, slots_count, are_outputs, up_to_rose}
 use Rattle.fabric_tool.specs.Command.{LiveWords, Live, AllKnown, KeepsOthers, is_live, live_of, live_count, came_at, sent_at, by_port}
-use Rattle.fabric_tool.specs.Inputs.{HasConfig, HasCapture, AreCaptures, LIMITS}
-use Rattle.fabric_tool.specs.Left.{AreUnwritten, HoldsAll, HoldsFronts, AreOldOrFront, LegalIsSafe}
-use Rattle.fabric_tool.specs.Living.{session_of, came_on, all_came, HoldsSession, HoldsSessionFronts, HasSession, HasLived, HasHalt, HasHalted, HasLiveFront, IsBegun, IsFaulty, IsNoPort, IsPast, IsLiveRefused, LiveHolds}
+use Rattle.fabric_tool.specs.Inputs.{HasConfig, AreCaptures, LIMITS}
+use Rattle.fabric_tool.specs.Left.{AreUnwritten, LegalIsSafe}
+use Rattle.fabric_tool.specs.Living.{came_on, HoldsSession, HoldsSessionFronts, HasSession, HasLived, HasHalt, HasHalted, HasLiveFront, IsBegun, IsFaulty, IsNoPort, IsPast, IsLiveRefused}
+use Rattle.fabric_tool.specs.Ends.{Holds, KeepsOthers}
 use Rattle.fabric_tool.specs.Opening.{RecordedOpened, lived_by}
 use Rattle.fabric_tool.specs.Preparing.{IsNew, IsLivePrepared}
 use Rattle.fabric_tool.specs.Reading.{ConfigRead}
@@ -52,7 +51,7 @@ use Rattle.fabric_tool.specs.declared.outcome.Outcome.{Outcome}
 use Rattle.fabric_tool.specs.declared.outcome.Outcome.TheVariants as ends
 use Rattle.fabric_tool.proofs.AmongLemmas.{none_among}
 use Rattle.fabric_tool.proofs.HeadLemmas.{not_unread}
-use Rattle.fabric_tool.proofs.LiveWordLemmas.{both, outputs_split, among_came, among_sent, live_names, came_once, sent_once, came_sent, came_first, sent_first, config_apart, stream_apart}
+use Rattle.fabric_tool.proofs.LiveWordLemmas.{both, outputs_split, among_came, among_sent, live_names, came_once, sent_once, came_sent, came_first, sent_first, stream_apart}
 use Rattle.fabric_tool.proofs.PartLemmas.{empty_fronts, unwritten}
 use Rattle.fabric_tool.proofs.RanLemmas.{AreNamed, named_still, named_at, in_order_as, held, held_fronts}
 
@@ -134,14 +133,14 @@ others_same : (k : LiveWords) (old new : Seen) → SameFiles old new → KeepsOt
 others_same k old new same m none = same m
 
 -- the configuration can't be taken
-config_ended : (k : LiveWords) (old new : Seen) (x : Outcome) → ConfigRead k.config old new (Err x) → LiveHolds k old new x
+config_ended : (k : LiveWords) (old new : Seen) (x : Outcome) → ConfigRead k.config old new (Err x) → Holds (Live k) old new x
 config_ended k old new x read = elim read.only [
-  | inl fault ↦ subst (LiveHolds k old new) (sym fault.1) (read.reads.files, λ told. read.fault told fault.0 fault.1, (read.counts (λ is. let e = fault.1 in absurd (cc)), read.reads.writes))
+  | inl fault ↦ subst (Holds (Live k) old new) (sym fault.1) (read.reads.files, λ told. read.fault told fault.0 fault.1, (read.counts (λ is. let e = fault.1 in absurd (cc)), read.reads.writes))
   | inr other ↦ elim other [
     | inl failed ↦
         let rose = read.cause (ap (λ (o : Outcome). let r : Result Settings Outcome = Err o in r) failed) in
-        subst (LiveHolds k old new) (sym failed) (others_same k old new read.reads.files, inl rose, λ told. inl (read.reads.files, rose), read.reads.writes)
-    | inr memory ↦ subst (LiveHolds k old new) (sym memory) (others_same k old new read.reads.files, λ told. inl read.reads.files, (read.counts (λ is. absurd (cc)), read.reads.writes))
+        subst (Holds (Live k) old new) (sym failed) (others_same k old new read.reads.files, inl rose, λ told. inl (read.reads.files, rose), read.reads.writes)
+    | inr memory ↦ subst (Holds (Live k) old new) (sym memory) (others_same k old new read.reads.files, λ told. inl read.reads.files, (read.counts (λ is. absurd (cc)), read.reads.writes))
   ]
 ]
 
@@ -323,7 +322,7 @@ module _ (words : List (String Global)) (live : is_live words ≡ true) (safe : 
   told_m told = subst IsTrue (sym reads.keeps.told) told
 
   -- the stream can't be opened
-  pub stream_closed : (e : Failed) → OpensIn {E = Failed} kk.stream m s (Err e) → LiveHolds kk old s ends.ReadFault
+  pub stream_closed : (e : Failed) → OpensIn {E = Failed} kk.stream m s (Err e) → Holds (Live kk) old s ends.ReadFault
   stream_closed e o =
       let same : SameFiles old s = λ name. o.reads.files name ∙ reads.files name in
       let rose : Rose (old.read_faults kk.stream) (s.read_faults kk.stream) = rose_later (old.read_faults kk.stream) (m.read_faults kk.stream) (s.read_faults kk.stream) ((reads_touches kk.config old m reads).reads_rise kk.stream) o.cause in
@@ -357,7 +356,7 @@ module _ (words : List (String Global)) (live : is_live words ≡ true) (safe : 
     }
 
     -- an output can't be opened
-    pub not_recorded : {e : Failed} → RecordedOpened kk s a (Err e) → LiveHolds kk old a ends.WriteFault
+    pub not_recorded : {e : Failed} → RecordedOpened kk s a (Err e) → Holds (Live kk) old a ends.WriteFault
     unfolding begun stream_file
     not_recorded r =
         let all = kk.journal ∷ by_port kk.ins kk.outs in (
@@ -468,7 +467,7 @@ module _ (words : List (String Global)) (live : is_live words ≡ true) (safe : 
         refused told packets why (inl whole) = inr (inl (halted IsBegun told packets why whole))
         refused told packets why (inr broken) = inr (inr (front told packets why broken.1, broken.0))
 
-      pub live_ended : (b : Seen) (x : Result Done LiveFault) → LiveRuns c LIMITS stream fs a b x → LiveHolds kk old b (lived_by x)
+      pub live_ended : (b : Seen) (x : Result Done LiveFault) → LiveRuns c LIMITS stream fs a b x → Holds (Live kk) old b (lived_by x)
       live_ended b (Ok done) x = (others b x.touches, λ told. finished b x.touches done told (x.ends (told_a told)), none_then old a b quiet_a x.counts)
       live_ended b (Err (fault.Block at why)) x =
           (others b x.touches, λ told. let e = x.ends (told_a told) in halted b x.touches (IsFaulty at why) told e.0 e.1 e.2, none_then old a b quiet_a x.counts)

@@ -13,9 +13,10 @@ use Rattle.pcap_file.proofs.lemmas.Numbers.{le_or_lt}
 use Rattle.fab_vectors.specs.Making.{AreNine, IsNamed, Makes, file_text}
 use Rattle.fab_vectors.specs.declared.MakeFault.{MakeFault}
 use Rattle.fab_vectors.specs.declared.MakeFault.TheVariants as faults
-use Rattle.fabric_tool.specs.Command.{Make, TouchesOwn, is_make, files_of, make_of, file_at, names_from, are_names, KeepsOthers}
+use Rattle.fabric_tool.specs.Command.{Make, is_make, files_of, make_of, file_at, names_from, are_names}
 use Rattle.run_files.specs.Names.{Among, AnyRose}
-use Rattle.fabric_tool.specs.Load.{HasLoadFront, MakeHolds, file_name}
+use Rattle.fabric_tool.specs.Ends.{Holds, KeepsOthers, TouchesOwn}
+use Rattle.fabric_tool.specs.Load.{HasLoadFront, file_name}
 use Rattle.fabric_tool.specs.Opening.{FilesOpened}
 use Rattle.run_files.specs.Opening.{AreEmptyOutputs, Opens}
 use Rattle.fabric_tool.specs.declared.making.LoadFiles.{LoadFiles}
@@ -129,17 +130,17 @@ module _ (words : List (String Global)) (make : is_make words ≡ true) (b : See
         let k = Make (make_of number words) in
         own_then k a b d (own_written k a b opens.touches) (own_wider k _ _ b d named_among (λ n x. elim x [ inl none ↦ absurd none | inr named ↦ inr (named_among n named) ]) m.uses.touches)
 
-    pub made_whole : (frames : ℕ) → r ≡ Ok frames → MakeHolds (make_of number words) a d (ends.Made frames)
+    pub made_whole : (frames : ℕ) → r ≡ Ok frames → Holds (Make (make_of number words)) a d (ends.Made frames)
     made_whole frames is =
         let n = subst (λ x. Makes number slots b d x) is m in
         (n.count, (keeps, λ told q lt. sym (ap d.file (name_of_file number q lt)) ∙ n.whole (told_on told) q lt, none_then a b d (opens.reads, same) n.uses.counts))
 
-    pub made_memory : r ≡ Err faults.Memory → MakeHolds (make_of number words) a d ends.Memory
+    pub made_memory : r ≡ Err faults.Memory → Holds (Make (make_of number words)) a d ends.Memory
     made_memory is =
         let n = subst (λ x. Makes number slots b d x) is m in
         (keeps, fronts, none_then a b d (opens.reads, same) n.uses.counts)
 
-    pub made_failed : r ≡ Err faults.Write → MakeHolds (make_of number words) a d ends.WriteFault
+    pub made_failed : r ≡ Err faults.Write → Holds (Make (make_of number words)) a d ends.WriteFault
     made_failed is =
         let n = subst (λ x. Makes number slots b d x) is m in
         let one = n.uses.counts.0 in
@@ -147,7 +148,7 @@ module _ (words : List (String Global)) (make : is_make words ≡ true) (b : See
         (keeps, rose_since a.write_faults b.write_faults d.write_faults opens.touches.writes_rise (files_of words) rose, fronts, λ x. n.uses.counts.1 x ∙ opens.reads x)
 
 -- an output that couldn't be opened
-pub not_opened : (number : ℕ) (words : List (String Global)) (a b : Seen) (e : Failed) → FilesOpened (files_of words) a b (Err e) → MakeHolds (make_of number words) a b ends.WriteFault
+pub not_opened : (number : ℕ) (words : List (String Global)) (a b : Seen) (e : Failed) → FilesOpened (files_of words) a b (Err e) → Holds (Make (make_of number words)) a b ends.WriteFault
 not_opened number words a b e o = (
   λ m none. o.opens.touches.files m (none_among (files_of words) m none),
   up_to_rose (files_of words) a b o.cause,

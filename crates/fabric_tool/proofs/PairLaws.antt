@@ -20,10 +20,10 @@ use Rattle.fab_migrate.specs.Old.{new_text}
 use Rattle.fab_migrate.specs.declared.old.OldWhy.{OldWhy}
 use Rattle.fab_migrate.proofs.OldReadingLemmas.{one_reading}
 use Rattle.fabric_tool.specs.Command.{PairNames, Convert, Migrate}
-use Rattle.fabric_tool.specs.Ends.{TakesMemory}
+use Rattle.fabric_tool.specs.Ends.{TakesMemory, Holds}
 use Rattle.fabric_tool.specs.Inputs.{HasCapture, LIMITS, MOST_BYTES}
 use Rattle.fabric_tool.specs.Outcome.{status_of, line_of}
-use Rattle.fabric_tool.specs.Pairs.{convert_end, ConvertHolds, ConvertEnded, ended_by, convert_meaning, migrate_end, MigrateHolds, MigrateEnded, MigrateSays, migrate_meaning}
+use Rattle.fabric_tool.specs.Pairs.{convert_end, ConvertEnded, ended_by, convert_meaning, migrate_end, MigrateEnded, MigrateSays, migrate_meaning}
 use Rattle.fabric_tool.specs.declared.outcome.Outcome.{Outcome}
 use Rattle.fabric_tool.specs.declared.outcome.Outcome.TheVariants as ends
 use Rattle.fabric_tool.proofs.EndingLemmas.{Left, Said, IsAnswer, less}
@@ -41,7 +41,7 @@ converted k old new ends.WriteFault h = h
 converted k old new ends.Memory h = h
 converted k old new o h = absurd h
 
-convert_answered : (k : PairNames) (old new : Seen) (o : Outcome) → ConvertHolds k old new o → TakesMemory o → IsAnswer (convert_end k old new o)
+convert_answered : (k : PairNames) (old new : Seen) (o : Outcome) → Holds (Convert k) old new o → TakesMemory o → IsAnswer (convert_end k old new o)
 convert_answered k old new (ends.Converted records) h takes = tt
 convert_answered k old new (ends.BadBlock at fault) h takes = tt
 convert_answered k old new (ends.Limit kind) h takes = tt
@@ -57,7 +57,7 @@ taken k old new records c rs = (
   λ is. record { bytes = classic_bytes c.packets; file = c.output; head = written; capture = subst (λ l. IsCapture written l (classic_bytes c.packets)) (sym is) c.read_back },
 )
 
-done_convert : (k : PairNames) (old new : Seen) (before after : Sunk) (o : Outcome) → status_of o ≡ 0 → ConvertHolds k old new o → (IsTrue before.told → after.written ≡ before.written ++ line_of o) → IsTrue old.told → ConvertEnded k old new before after
+done_convert : (k : PairNames) (old new : Seen) (before after : Sunk) (o : Outcome) → status_of o ≡ 0 → Holds (Convert k) old new o → (IsTrue before.told → after.written ≡ before.written ++ line_of o) → IsTrue old.told → ConvertEnded k old new before after
 unfolding line_of
 done_convert k old new before after (ends.Converted records) is h printed = λ told. record { count = records; done = h.1 told; run_takes = taken k old new records (h.1 told); printed = printed }
 done_convert k old new before after o is h printed = absurd (omega arith)
@@ -76,11 +76,11 @@ convert_found k old new l told found = go
     go ends.Memory h = inr refl
     go o h = absurd h
 
-pub convert_laws : (k : PairNames) → Laws (Convert k) (convert_meaning k)
+pub convert_laws : (k : PairNames) → Laws (convert_meaning k)
 convert_laws k = record {
   same = λ old new files. Same (files k.to);
   whole = converted k;
-  spare = λ old new o h takes. less (Convert k) old new (IsFront k.from k.to LIMITS old new) (λ files. Same (files k.to)) (convert_end k old new o) (convert_answered k old new o h takes) (converted k old new o) h;
+  spare = λ old new o h takes. less (convert_meaning k) old new (IsFront k.from k.to LIMITS old new) (λ files. Same (files k.to)) (convert_end k old new o) (convert_answered k old new o h takes) (converted k old new o) h;
   done = done_convert k;
   once = λ old new o p told h says. elim (convert_found k old new says.0 told says.1 o h) [ inl is ↦ inl (alike o p (is ∙ sym says.2)) | inr memory ↦ inr memory ];
   formed = λ old new o forms h. elim (convert_found k old new forms.input.bytes forms.told forms.input.file o h) [
@@ -101,13 +101,13 @@ migrated k old new ends.WriteFault h = h
 migrated k old new ends.Memory h = h
 migrated k old new o h = absurd h
 
-migrate_answered : (k : PairNames) (old new : Seen) (o : Outcome) → MigrateHolds k old new o → TakesMemory o → IsAnswer (migrate_end k old new o)
+migrate_answered : (k : PairNames) (old new : Seen) (o : Outcome) → Holds (Migrate k) old new o → TakesMemory o → IsAnswer (migrate_end k old new o)
 migrate_answered k old new (ends.Migrated entries) h takes = tt
 migrate_answered k old new (ends.BadLine line fault) h takes = tt
 migrate_answered k old new (ends.Limit kind) h takes = tt
 migrate_answered k old new o h takes = absurd (omega arith)
 
-done_migrate : (k : PairNames) (old new : Seen) (before after : Sunk) (o : Outcome) → status_of o ≡ 0 → MigrateHolds k old new o → (IsTrue before.told → after.written ≡ before.written ++ line_of o) → IsTrue old.told → MigrateEnded k old new before after
+done_migrate : (k : PairNames) (old new : Seen) (before after : Sunk) (o : Outcome) → status_of o ≡ 0 → Holds (Migrate k) old new o → (IsTrue before.told → after.written ≡ before.written ++ line_of o) → IsTrue old.told → MigrateEnded k old new before after
 unfolding line_of
 done_migrate k old new before after (ends.Migrated entries) is h printed = λ told. record { count = entries; done = h.1 told; printed = printed }
 done_migrate k old new before after o is h printed = absurd (omega arith)
@@ -144,11 +144,11 @@ migrate_found k old new l told found = go
     go ends.Memory h = inr refl
     go o h = absurd h
 
-pub migrate_laws : (k : PairNames) → Laws (Migrate k) (migrate_meaning k)
+pub migrate_laws : (k : PairNames) → Laws (migrate_meaning k)
 migrate_laws k = record {
   same = λ old new files. Untouched (files k.to);
   whole = migrated k;
-  spare = λ old new o h takes. less (Migrate k) old new (IsNewFront k.from k.to MOST_BYTES old new) (λ files. Untouched (files k.to)) (migrate_end k old new o) (migrate_answered k old new o h takes) (migrated k old new o) h;
+  spare = λ old new o h takes. less (migrate_meaning k) old new (IsNewFront k.from k.to MOST_BYTES old new) (λ files. Untouched (files k.to)) (migrate_end k old new o) (migrate_answered k old new o h takes) (migrated k old new o) h;
   done = done_migrate k;
   once = λ old new o p told h says. elim (migrate_found k old new says.0 told says.1 o h) [ inl is ↦ inl (alike o p (one_end says.0 o p is says.2)) | inr memory ↦ inr memory ];
   formed = λ old new o forms h. elim (migrate_found k old new forms.bytes forms.told forms.file o h) [

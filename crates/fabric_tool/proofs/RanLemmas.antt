@@ -27,10 +27,10 @@ use Rattle.fab_windows.specs.Files.{Written, FileBytes, file_bytes, file_slots, 
 use Rattle.fab_windows.specs.Run.{AreGiven, IsRunOver, Runs, Finished, Stopped, Interrupted, keeps}
 use Rattle.fab_windows.specs.declared.Done.{Done}
 use Rattle.fab_replay.proofs.OneLemmas.{same_frames}
-use Rattle.fabric_tool.specs.Command.{RunNames, Run, are_pairs, run_of, port_count, input_at, KeepsOthers}
+use Rattle.fabric_tool.specs.Command.{RunNames, Run, are_pairs, run_of, port_count, input_at}
 use Rattle.fab_base.proofs.EndingLemmas.{none_then}
 use Rattle.run_files.specs.Names.{Among}
-use Rattle.fabric_tool.specs.Running.{RunHolds}
+use Rattle.fabric_tool.specs.Ends.{Holds, KeepsOthers}
 use Rattle.fabric_tool.specs.Inputs.{HasConfig, HasInputs, stop_of, kept_of, LIMITS, MOST_BYTES, MOST_FRAMES}
 use Rattle.fabric_tool.specs.Left.{HoldsAll, HoldsFronts, AreOldOrFront, HasRun, HasStopped, HasPart, LegalIsSafe}
 use Rattle.fabric_tool.specs.Opening.{ran_by}
@@ -64,19 +64,19 @@ config_as {m} {n} {a} {b} {r} e read = subst (λ l. ConfigRead l a b r) e read
 config_touched : (k : RunNames) (old new : Seen) {r : Result Settings Outcome} → ConfigRead k.config old new r → Touches Nothing (Among (k.config ∷ k.ins)) old new
 config_touched k old new read = touches_wider Nothing (Only k.config) Nothing (Among (k.config ∷ k.ins)) old new (λ m x. x) (λ m x. inl x) (reads_touches k.config old new read.reads)
 
-config_ended : (k : RunNames) (old new : Seen) (x : Outcome) → ConfigRead k.config old new (Err x) → RunHolds k old new x
+config_ended : (k : RunNames) (old new : Seen) (x : Outcome) → ConfigRead k.config old new (Err x) → Holds (Run k) old new x
 config_ended k old new x read = elim read.only [
-  | inl fault ↦ subst (RunHolds k old new) (sym fault.1) (read.reads.files, λ told. read.fault told fault.0 fault.1, (read.counts (λ is. let e = fault.1 in absurd (cc)), read.reads.writes))
+  | inl fault ↦ subst (Holds (Run k) old new) (sym fault.1) (read.reads.files, λ told. read.fault told fault.0 fault.1, (read.counts (λ is. let e = fault.1 in absurd (cc)), read.reads.writes))
   | inr other ↦ elim other [
     | inl failed ↦
         let rose = read.cause (ap (λ (o : Outcome). let r : Result Settings Outcome = Err o in r) failed) in
-        subst (RunHolds k old new) (sym failed) (others_same k old new read.reads.files, inl rose, λ told. inl (read.reads.files, rose), read.reads.writes)
-    | inr memory ↦ subst (RunHolds k old new) (sym memory) (others_same k old new read.reads.files, λ told. inl read.reads.files, (read.counts (λ is. absurd (cc)), read.reads.writes))
+        subst (Holds (Run k) old new) (sym failed) (others_same k old new read.reads.files, inl rose, λ told. inl (read.reads.files, rose), read.reads.writes)
+    | inr memory ↦ subst (Holds (Run k) old new) (sym memory) (others_same k old new read.reads.files, λ told. inl read.reads.files, (read.counts (λ is. absurd (cc)), read.reads.writes))
   ]
 ]
 
 -- what holds where the command ends before a fabric is made
-unprepared : (k : RunNames) (old new : Seen) (x : Outcome) → Touches Nothing (Among (k.config ∷ k.ins)) old new → RunHolds k old new x → IsPrepared k old new (Err x)
+unprepared : (k : RunNames) (old new : Seen) (x : Outcome) → Touches Nothing (Among (k.config ∷ k.ins)) old new → Holds (Run k) old new x → IsPrepared k old new (Err x)
 unprepared k old new x touches ended = record { touches = touches; fabric = tt; config = λ told. tt; heads = tt; left = tt; ended = ended; counts = tt }
 
 pub no_config : (k : RunNames) {old new : Seen} {x : Outcome} → ConfigRead k.config old new (Err x) → IsPrepared k old new (Err x)
@@ -95,7 +95,7 @@ module _ (k : RunNames) {c : Settings} {old b : Seen} (config : ConfigRead k.con
   touched = reads_touches k.config old b config.reads
 
   module _ {new : Seen} where
-    heads_ended : HEAD * length k.ins ≤ MOST_BYTES → (left : Budget) (x : Outcome) → HeadsRead k.ins b new LIMITS left (Err x) → RunHolds k old new x
+    heads_ended : HEAD * length k.ins ≤ MOST_BYTES → (left : Budget) (x : Outcome) → HeadsRead k.ins b new LIMITS left (Err x) → Holds (Run k) old new x
     heads_ended room left x read = go x read.ended read.counts
       where
         same : SameFiles old new
@@ -107,7 +107,7 @@ module _ (k : RunNames) {c : Settings} {old b : Seen} (config : ConfigRead k.con
         none : {x : Outcome} → TellsReads {T = Vec Input Global} b new (Err x) → (IsErrOf {T = Vec Input Global} (Err x) ends.ReadFault → ⊥) → NoFaults old new
         none tells silent = (λ m. tells silent m ∙ config.counts (not_unread c) m, writes)
 
-        go : (x : Outcome) → HeadsEnd k.ins MOST_BYTES b new x → TellsReads {T = Vec Input Global} b new (Err x) → RunHolds k old new x
+        go : (x : Outcome) → HeadsEnd k.ins MOST_BYTES b new x → TellsReads {T = Vec Input Global} b new (Err x) → Holds (Run k) old new x
         go (ends.Capture port at reason) e tells = (
           λ m other. same m,
           λ told. inl (same, e.0, record { settings = c; config = config.ok told; first = without_since old b config.reads.files refl (e.2 (told_b told)) }),
@@ -175,7 +175,7 @@ module _ (k : RunNames) (c : Settings) (old m a : Seen) (ins : List Input)
   others_opened name none = opens.touches.files name (none_among (k.journal ∷ k.outs) name none) ∙ inputs.files name (λ x. x)
 
   -- one of them can't be
-  pub not_opened : NothingIsRun → OpenedUpTo (k.journal ∷ k.outs) m a → RunHolds k old a ends.WriteFault
+  pub not_opened : NothingIsRun → OpenedUpTo (k.journal ∷ k.outs) m a → Holds (Run k) old a ends.WriteFault
   not_opened nothing up_to = (
     others_opened,
     rose_since old.write_faults m.write_faults a.write_faults inputs.writes_rise (k.journal ∷ k.outs) (up_to_rose (k.journal ∷ k.outs) m a up_to),
@@ -396,7 +396,7 @@ module _ (words : List (String Global)) (run : are_pairs words ≡ true) (c : Se
       files = holds_fronts i.entry_list i.files;
     }
 
-  pub windows_ended : (r : Result Done RunFault) → Runs c (start_at a ins budget) b (file_slots journal outs) r → RunHolds k old b (ran_by r)
+  pub windows_ended : (r : Result Done RunFault) → Runs c (start_at a ins budget) b (file_slots journal outs) r → Holds (Run k) old b (ran_by r)
   windows_ended (Ok done) r = (others r.touches, λ told. finished r.touches done told (r.ends (told_a told)), none_then old a b quiet r.counts)
   windows_ended (Err (faults.Capture port at why)) r = (
     others r.touches,

@@ -11,8 +11,9 @@ use Rattle.fab_policy.specs.Standing.{Contents, Stands}
 use Rattle.fab_policy.specs.State.{tables_of}
 use Rattle.fab_replay.specs.Check.{Matter}
 use Rattle.fab_replay.specs.Showing.{shown_by}
-use Rattle.fabric_tool.specs.Checking.{Finds, IsStanding, IsLegalJournal, IsShownJournal, IsChecked, ReplayHolds, ShowHolds, GivenRead, GivenEnds, Tells}
-use Rattle.fabric_tool.specs.Command.{RunNames, are_ports, names_of, show_of, input_of, count_of}
+use Rattle.fabric_tool.specs.Checking.{Finds, IsStanding, IsLegalJournal, IsShownJournal, IsChecked, GivenRead, GivenEnds, Tells}
+use Rattle.fabric_tool.specs.Command.{RunNames, are_ports, names_of, show_of, input_of, count_of, Replay, Show}
+use Rattle.fabric_tool.specs.Ends.{Holds}
 use Rattle.fabric_tool.specs.Inputs.{HaveNoRoom, MOST_BYTES}
 use Rattle.fabric_tool.specs.declared.command.Width.{Width}
 use Rattle.fabric_tool.specs.declared.command.Width.TheVariants as widths
@@ -64,10 +65,10 @@ given_ended w words run a z x r = go x r.ended (λ other. (r.counts (λ is. othe
 finds_on : (k : RunNames) (d : Seen) (P Q : Settings → Budget → Matter → Type 0) → ((c : Settings) (b : Budget) (m : Matter) → P c b m → Q c b m) → Finds k d P → Finds k d Q
 finds_on k d P Q on f = record { settings = f.settings; opened = f.opened; journal = f.journal; matter = f.matter; says = on _ _ _ f.says }
 
-pub replay_done : (k : RunNames) (a z : Seen) (F : Contents) (entries : ℕ) → IsChecked widths.Two k a z (Ok (F, entries)) → ReplayHolds k a z (ends.Legal entries)
+pub replay_done : (k : RunNames) (a z : Seen) (F : Contents) (entries : ℕ) → IsChecked widths.Two k a z (Ok (F, entries)) → Holds (Replay k) a z (ends.Legal entries)
 replay_done k a z F entries h = (h.0, λ told. finds_on k a (IsStanding F entries) (IsLegalJournal entries) (λ c b m s. record { entry_list = s.entry_list; names = s.names; outputs = s.outputs; count = s.count }) (h.1 told), h.2)
 
-pub replay_refused : (k : RunNames) (a z : Seen) (o : Outcome) → IsChecked widths.Two k a z (Err o) → ReplayHolds k a z o
+pub replay_refused : (k : RunNames) (a z : Seen) (o : Outcome) → IsChecked widths.Two k a z (Err o) → Holds (Replay k) a z o
 replay_refused k a z (ends.Legal entries) h = absurd h
 replay_refused k a z o h = h
 
@@ -83,12 +84,12 @@ shown_of F entries text c b m tells s = record {
   told = tells s.entry_list s.stands ∙ ap (λ (n : ℕ). shown_by n (tables_of F.settings s.entry_list)) s.count ∙ ap (λ (x : Settings). shown_by (length s.entry_list) (tables_of x s.entry_list)) s.settings;
 }
 
-pub show_done : (k : RunNames) (a z : Seen) (F : Contents) (entries : ℕ) (o : Outcome) → IsChecked widths.One k a z (Ok (F, entries)) → Tells F entries o → ShowHolds k a z o
+pub show_done : (k : RunNames) (a z : Seen) (F : Contents) (entries : ℕ) (o : Outcome) → IsChecked widths.One k a z (Ok (F, entries)) → Tells F entries o → Holds (Show k) a z o
 show_done k a z F entries (ends.Shown text) h tells = (h.0, λ told. finds_on k a (IsStanding F entries) (IsShownJournal text) (λ c b m s. shown_of F entries text c b m tells s) (h.1 told), h.2)
 show_done k a z F entries ends.Memory h tells = (h.0, λ told. tt, h.2)
 show_done k a z F entries o h tells = absurd tells
 
-pub show_refused : (words : List (String Global)) (a z : Seen) (o : Outcome) → IsChecked widths.One (show_of words) a z (Err o) → ShowHolds (show_of words) a z o
+pub show_refused : (words : List (String Global)) (a z : Seen) (o : Outcome) → IsChecked widths.One (show_of words) a z (Err o) → Holds (Show (show_of words)) a z o
 show_refused words a z (ends.Shown text) h = absurd h
 show_refused words a z (ends.WrongOutput port at) h = (h.0, λ told. let first = (h.1 told).says.first in absurd (omega (arith, first.2)), h.2)
 show_refused words a z o h = h

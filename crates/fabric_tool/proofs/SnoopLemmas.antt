@@ -20,17 +20,17 @@ use Rattle.snoop_run.specs.Laws.{AreCaptures}
 use Rattle.snoop_run.specs.Sides.{ins_of, outs_of}
 use Rattle.snoop_run.specs.declared.run.Crossed.{Crossed}
 use Rattle.snoop_run.proofs.RunLemmas.{fronts_since}
-use Rattle.fabric_tool.specs.Command.{SnoopNames, Snoop, KeepsOthers}
+use Rattle.fabric_tool.specs.Command.{SnoopNames, Snoop}
 use Rattle.run_files.specs.Faults.{fault_from, run_end}
 use Rattle.run_files.specs.Names.{Among}
 use Rattle.run_files.specs.declared.fault.RunFault.{RunFault}
 use Rattle.run_files.specs.declared.fault.RunFault.TheVariants as faults
-use Rattle.fabric_tool.specs.Ends.{TakesMemory}
+use Rattle.fabric_tool.specs.Ends.{TakesMemory, Holds, KeepsOthers}
 use Rattle.fabric_tool.specs.Inputs.{HasConfig, HasFault, LIMITS}
 use Rattle.fabric_tool.specs.Opening.{stopped_by, crossed_by}
 use Rattle.fabric_tool.specs.Outcome.{status_of, line_of}
 use Rattle.fabric_tool.specs.Reading.{ConfigRead}
-use Rattle.fabric_tool.specs.Snooping.{HasSnooped, HasSnoopedFront, HasSnoopFront, IsCaptureUnread, IsStopped, snoop_end, SnoopHolds, SnoopEnded, SnoopForms, SnoopSays, crossing_of, snoop_meaning}
+use Rattle.fabric_tool.specs.Snooping.{HasSnooped, HasSnoopedFront, HasSnoopFront, IsCaptureUnread, IsStopped, snoop_end, SnoopEnded, SnoopForms, SnoopSays, crossing_of, snoop_meaning}
 use Rattle.fabric_tool.specs.declared.outcome.Outcome.{Outcome}
 use Rattle.fabric_tool.specs.declared.outcome.Outcome.TheVariants as ends
 use Rattle.fabric_tool.proofs.EndingLemmas.{Left, Said, IsAnswer, less}
@@ -58,7 +58,7 @@ snoop_front k old new ends.WriteFault h = inr h
 snoop_front k old new ends.Memory h = h
 snoop_front k old new o h = absurd h
 
-snoop_answered : (k : SnoopNames) (old new : Seen) (o : Outcome) → SnoopHolds k old new o → TakesMemory o → IsAnswer (snoop_end k old new o)
+snoop_answered : (k : SnoopNames) (old new : Seen) (o : Outcome) → Holds (Snoop k) old new o → TakesMemory o → IsAnswer (snoop_end k old new o)
 snoop_answered k old new (ends.Bridged passes drops) h takes = tt
 snoop_answered k old new (ends.Config fault) h takes = tt
 snoop_answered k old new (ends.Capture port at reason) h takes = tt
@@ -155,16 +155,16 @@ module _ (k : SnoopNames) (d : Seen) where
 
 -- ---- the laws
 
-done_snoop : (k : SnoopNames) (old new : Seen) (before after : Sunk) (o : Outcome) → status_of o ≡ 0 → SnoopHolds k old new o → (IsTrue before.told → after.written ≡ before.written ++ line_of o) → IsTrue old.told → SnoopEnded k old new before after
+done_snoop : (k : SnoopNames) (old new : Seen) (before after : Sunk) (o : Outcome) → status_of o ≡ 0 → Holds (Snoop k) old new o → (IsTrue before.told → after.written ≡ before.written ++ line_of o) → IsTrue old.told → SnoopEnded k old new before after
 unfolding line_of
 done_snoop k old new before after (ends.Bridged passes drops) is h printed = λ told. record { passes = passes; drops = drops; done = h.1 told; printed = printed }
 done_snoop k old new before after o is h printed = absurd (omega arith)
 
-pub snoop_laws : (k : SnoopNames) → Laws (Snoop k) (snoop_meaning k)
+pub snoop_laws : (k : SnoopNames) → Laws (snoop_meaning k)
 snoop_laws k = record {
   same = λ old new files. inl files;
   whole = snoop_front k;
-  spare = λ old new o h takes. less (Snoop k) old new (HasSnoopFront k old new) (λ files. inl files) (snoop_end k old new o) (snoop_answered k old new o h takes) (snoop_front k old new o) h;
+  spare = λ old new o h takes. less (snoop_meaning k) old new (HasSnoopFront k old new) (λ files. inl files) (snoop_end k old new o) (snoop_answered k old new o h takes) (snoop_front k old new o) h;
   done = done_snoop k;
   once = λ old new o p told. snoop_once k old new told o p;
   formed = λ old new o forms. snoop_formed k old new forms.told forms o;
@@ -173,12 +173,12 @@ snoop_laws k = record {
 -- ---- the call
 
 -- the configuration can't be taken
-pub not_configured : (k : SnoopNames) (old new : Seen) (x : Outcome) → ConfigRead k.config old new (Err x) → SnoopHolds k old new x
+pub not_configured : (k : SnoopNames) (old new : Seen) (x : Outcome) → ConfigRead k.config old new (Err x) → Holds (Snoop k) old new x
 not_configured k old new x read = elim read.only [
-  | inl fault ↦ subst (SnoopHolds k old new) (sym fault.1) (read.reads.files, λ told. read.fault told fault.0 fault.1, none (ends.Config fault.0) fault.1 (λ is. cc))
+  | inl fault ↦ subst (Holds (Snoop k) old new) (sym fault.1) (read.reads.files, λ told. read.fault told fault.0 fault.1, none (ends.Config fault.0) fault.1 (λ is. cc))
   | inr other ↦ elim other [
-    | inl failed ↦ subst (SnoopHolds k old new) (sym failed) (read.reads.files, inl (rose failed), λ told. inl (rose failed), read.reads.writes)
-    | inr memory ↦ subst (SnoopHolds k old new) (sym memory) ((λ m other. read.reads.files m), λ told. inl read.reads.files, none ends.Memory memory (λ is. cc))
+    | inl failed ↦ subst (Holds (Snoop k) old new) (sym failed) (read.reads.files, inl (rose failed), λ told. inl (rose failed), read.reads.writes)
+    | inr memory ↦ subst (Holds (Snoop k) old new) (sym memory) ((λ m other. read.reads.files m), λ told. inl read.reads.files, none ends.Memory memory (λ is. cc))
   ]
 ]
   where
@@ -254,7 +254,7 @@ module _ (k : SnoopNames) (c : Settings) (a b z : Seen) (config : ConfigRead k.c
     fronts = record { came = h.came; crosses = sym (ap (crossing LIMITS) (files_since a b same k.ins)) ∙ h.crosses; outputs = fronts_since a b z same k.outs (captures c (length k.outs) h.came) h.outputs };
   }
 
-  pub bridge_ended : (r : Result Crossed RunFault) → Bridges k.ins k.outs LIMITS c b z r → SnoopHolds k a z (crossed_by r)
+  pub bridge_ended : (r : Result Crossed RunFault) → Bridges k.ins k.outs LIMITS c b z r → Holds (Snoop k) a z (crossed_by r)
   bridge_ended r h = go r h.ends h.uses.counts
     where
       others : KeepsOthers (Snoop k) a z
@@ -263,7 +263,7 @@ module _ (k : SnoopNames) (c : Settings) (a b z : Seen) (config : ConfigRead k.c
       none : NoFaults b z → NoFaults a z
       none = none_then a b z counted
 
-      go : (r : Result Crossed RunFault) → Ends k.ins k.outs LIMITS c b z r → Counts (RoseIn (Among k.ins) b.read_faults z.read_faults) (RoseIn (Among k.outs) b.write_faults z.write_faults) (end_by run_end r) b z → SnoopHolds k a z (crossed_by r)
+      go : (r : Result Crossed RunFault) → Ends k.ins k.outs LIMITS c b z r → Counts (RoseIn (Among k.ins) b.read_faults z.read_faults) (RoseIn (Among k.outs) b.write_faults z.write_faults) (end_by run_end r) b z → Holds (Snoop k) a z (crossed_by r)
       go (Ok done) e counts = (others, λ told. bridged_since done (e (told_b told)) told, none counts)
       go (Err (faults.Capture port at why)) e counts = ((λ m. e.0 m ∙ same m), λ told. stopped_since (gather.Capture port at why) (e.1 (told_b told)) told, none counts)
       go (Err (faults.Limit kind)) e counts = ((λ m. e.0 m ∙ same m), λ told. stopped_since (gather.Limit kind) (e.1 (told_b told)) told, none counts)

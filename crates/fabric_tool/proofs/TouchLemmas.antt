@@ -27,7 +27,8 @@ use Rattle.run_files.proofs.NameLemmas.{among_front, among_back, among_split}
 use Rattle.snoop_run.specs.Bridged.{Bridges}
 use Rattle.snoop_run.specs.declared.run.Crossed.{Crossed}
 use Rattle.fabric_tool.specs.Checking.{AreOpenInputs, command_of}
-use Rattle.fabric_tool.specs.Command.{Command, Run, Snoop, Live, SnoopNames, TouchesOwn, are_pairs, are_ports, is_live, run_of, live_of, names_of, ins_of, inputs, outputs, named, form_of, command}
+use Rattle.fabric_tool.specs.Command.{Command, Run, Snoop, Live, SnoopNames, are_pairs, are_ports, is_live, run_of, live_of, names_of, ins_of, named, form_of, command}
+use Rattle.fabric_tool.specs.Ends.{inputs, outputs, TouchesOwn}
 use Rattle.fabric_tool.specs.Opening.{RecordedOpened}
 use Rattle.fabric_tool.specs.Reading.{AreHeads}
 use Rattle.fabric_tool.specs.declared.command.Form.{Form}

@@ -142,12 +142,6 @@ show_end k old new (ends.Shown text) = Untouched (CheckSays k old (ends.Shown te
 show_end k old new (ends.WrongOutput port at) = Untouched ⊥
 show_end k old new o = check_end k old new o
 
-abbrev pub ReplayHolds : RunNames → Seen → Seen → Outcome → Type 0
-ReplayHolds k old new o = EndsBy (Replay k) old new (replay_end k old new o)
-
-abbrev pub ShowHolds : RunNames → Seen → Seen → Outcome → Type 0
-ShowHolds k old new o = EndsBy (Show k) old new (show_end k old new o)
-
 -- ---- by status
 
 -- Status 0 of `replay`: no file has changed, the journal names a run whose captures the outputs are, and the line with the
@@ -179,8 +173,15 @@ ShowSays k d (ends.Legal entries) = ⊥
 ShowSays k d (ends.WrongOutput port at) = ⊥
 ShowSays k d o = CheckSays k d o
 
+-- what each of them reads, by how many names a port has: `replay` its outputs too
+abbrev pub reads_of : Width → RunNames → List (List ℕ)
+reads_of widths.One k = k.config ∷ k.journal ∷ k.ins
+reads_of widths.Two k = k.config ∷ k.journal ∷ k.ins ++ k.outs
+
 abbrev pub replay_meaning : RunNames → Meaning
 replay_meaning k = record {
+  reads = reads_of widths.Two k;
+  writes = [];
   end = replay_end k;
   Done = λ old new before after. IsTrue old.told → ReplayEnded k old new before after;
   Front = SameFiles;
@@ -190,6 +191,8 @@ replay_meaning k = record {
 
 abbrev pub show_meaning : RunNames → Meaning
 show_meaning k = record {
+  reads = reads_of widths.One k;
+  writes = [];
   end = show_end k;
   Done = λ old new before after. IsTrue old.told → ShowEnded k old new before after;
   Front = SameFiles;
@@ -286,7 +289,7 @@ pub record IsStanding (F : Contents) (entries : ℕ) (c : Settings) (budget : Bu
 -- how a check ends
 abbrev pub IsChecked : Width → RunNames → Seen → Seen → Result (Contents × ℕ) Outcome → Type 0
 IsChecked width k old new (Ok (F, entries)) = SameFiles old new × (IsTrue old.told → Finds k old (IsStanding F entries)) × NoFaults old new
-IsChecked width k old new (Err outcome) = EndsBy (command_of width k) old new (check_end k old new outcome)
+IsChecked width k old new (Err outcome) = EndsBy (reads_of width k) [] old new (check_end k old new outcome)
 
 -- what is told of a fabric that stands for a journal, or want of memory
 abbrev pub Tells : Contents → ℕ → Outcome → Type 0

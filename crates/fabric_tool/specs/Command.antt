@@ -1,17 +1,15 @@
 -- The command that words are.
-use Rattle.std.specs.Prelude.{◌≡◌, ℕ, ◌+◌, ◌-◌, ◌*◌, ◌/◌, ◌%◌, ◌^◌, ◌<◌, Bool, true, false, not, ◌==◌, nat_lt, nat_le, ◌&&◌, if◌then◌else◌, IsTrue, List, [], ◌∷◌, ◌++◌, length, map, drop, Option, Some, None, option_map, option_and_then, codes, decimal, String}
+use Rattle.std.specs.Prelude.{ℕ, ◌+◌, ◌-◌, ◌*◌, ◌/◌, ◌%◌, ◌^◌, ◌<◌, Bool, true, not, ◌==◌, nat_lt, nat_le, ◌&&◌, if◌then◌else◌, IsTrue, List, [], ◌∷◌, length, map, drop, Option, Some, None, option_map, option_and_then, codes, decimal, String}
 use Rattle.std.specs.List.{list_any}
 use Rattle.std.specs.Str.{bytes_eq}
 use Rattle.std.specs.Str.Parse.{digits_value}
 use Rattle.std.specs.String.{string_bytes}
 use Rattle.std.specs.declared.alloc.Global.{Global}
 use Rattle.fab_base.specs.Places.{name_at}
-use Rattle.fab_base.specs.Ending.{Either}
-use Rattle.fab_base.specs.Seen.{Seen, Touches}
+use Rattle.fab_base.specs.Seen.{Seen}
 use Rattle.fab_config.specs.Values.{octets_of, name}
 use Rattle.fab_base.specs.Counting.{counting}
 use Rattle.enode_core.specs.declared.node.Identity.{Identity}
-use Rattle.run_files.specs.Names.{AnyRose, Among}
 use Rattle.snoop_run.specs.Sides as sides
 use Rattle.fabric_tool.specs.declared.command.Form.{Form}
 use Rattle.fabric_tool.specs.declared.command.Form.TheVariants as forms
@@ -272,49 +270,6 @@ named words forms.Version = Version
 unfoldable pub command : List (String Global) → Option Command
 command words = option_map (named words) (form_of words)
 
--- what a command reads, and what it writes
-abbrev pub inputs : Command → List (List ℕ)
-inputs (Run k) = k.config ∷ k.ins
-inputs (Replay k) = k.config ∷ k.journal ∷ k.ins ++ k.outs
-inputs (Show k) = k.config ∷ k.journal ∷ k.ins
-inputs (Convert k) = k.from ∷ []
-inputs (Migrate k) = k.from ∷ []
-inputs (Make k) = []
-inputs (Snoop k) = k.config ∷ k.ins
-inputs (Enode k) = k.from ∷ []
-inputs (Live k) = k.config ∷ k.stream ∷ []
-inputs Help = []
-inputs Version = []
-
-abbrev pub outputs : Command → List (List ℕ)
-outputs (Run k) = k.journal ∷ k.outs
-outputs (Replay k) = []
-outputs (Show k) = []
-outputs (Convert k) = k.to ∷ []
-outputs (Migrate k) = k.to ∷ []
-outputs (Make k) = k.files
-outputs (Snoop k) = k.outs
-outputs (Enode k) = k.to ∷ []
-outputs (Live k) = k.journal ∷ by_port k.ins k.outs
-outputs Help = []
-outputs Version = []
-
 -- every word but the first is known
 abbrev pub AllKnown : Seen → List (String Global) → Type 0
 AllKnown d words = (i : ℕ) → 0 < i → i < length words → IsTrue (d.knows (name_at words i))
-
--- a fault of reading an input, and of writing an output, was counted
-abbrev pub ReadRose : Command → Seen → Seen → Type 0
-ReadRose k old new = AnyRose old.read_faults new.read_faults (inputs k)
-
-abbrev pub WriteRose : Command → Seen → Seen → Type 0
-WriteRose k old new = AnyRose old.write_faults new.write_faults (outputs k)
-
--- no file changes but the outputs
-abbrev pub KeepsOthers : Command → Seen → Seen → Type 0
-KeepsOthers k old new = (m : List ℕ) → list_any (λ n. bytes_eq n m) (outputs k) ≡ false → new.file m ≡ old.file m
-
--- What a command keeps, however it ends: what is told, the known names, each slot that was open, every file but the outputs, and of names
--- that are neither inputs nor outputs their counts and what their slots have left. No count falls.
-abbrev pub TouchesOwn : Command → Seen → Seen → Type 0
-TouchesOwn k = Touches (Among (outputs k)) (Either (Among (inputs k)) (Among (outputs k)))

@@ -1,8 +1,10 @@
 -- How a command can end: what is left of the files, and which faults are counted.
-use Rattle.std.specs.Prelude.{IsTrue}
+use Rattle.std.specs.Prelude.{◌≡◌, ℕ, false, IsTrue, List}
+use Rattle.std.specs.List.{list_any}
+use Rattle.std.specs.Str.{bytes_eq}
 use Rattle.fab_base.specs.Ending.{NoFaults}
 use Rattle.fab_base.specs.Seen.{Seen, SameFiles, SameReadFaults, SameWriteFaults}
-use Rattle.fabric_tool.specs.Command.{Command, ReadRose, WriteRose, KeepsOthers}
+use Rattle.run_files.specs.Names.{AnyRose}
 
 -- How a command can end. What is said here of bytes needs a depot that tells them.
 pub data Ending : Type 1 where
@@ -23,13 +25,25 @@ pub data Ending : Type 1 where
   -- this too, also where the depot doesn't tell
   Also : (fact : Type 0) → (end : Ending) → Ending
 
--- What holds where a command ends so. No fault of the depot is passed over: where it isn't told, no count of such faults has changed.
-abbrev pub EndsBy : Command → Seen → Seen → Ending → Type 0
-EndsBy k old new Never = ⊥
-EndsBy k old new (Untouched P) = SameFiles old new × (IsTrue old.told → P) × NoFaults old new
-EndsBy k old new (Leaves P) = KeepsOthers k old new × (IsTrue old.told → P) × NoFaults old new
-EndsBy k old new (Unread P) = SameFiles old new × ReadRose k old new × (IsTrue old.told → P) × SameWriteFaults old new
-EndsBy k old new (LeavesUnread P) = KeepsOthers k old new × ReadRose k old new × (IsTrue old.told → P) × SameWriteFaults old new
-EndsBy k old new (Unwritten P) = KeepsOthers k old new × WriteRose k old new × (IsTrue old.told → P) × SameReadFaults old new
-EndsBy k old new (LeavesUnwritten P) = KeepsOthers k old new × WriteRose k old new × (IsTrue old.told → P)
-EndsBy k old new (Also F e) = F × EndsBy k old new e
+-- a fault of reading one of these names was counted, and of writing one
+abbrev pub ReadRose : List (List ℕ) → Seen → Seen → Type 0
+ReadRose names old new = AnyRose old.read_faults new.read_faults names
+
+abbrev pub WriteRose : List (List ℕ) → Seen → Seen → Type 0
+WriteRose names old new = AnyRose old.write_faults new.write_faults names
+
+-- no file changes but those of these names
+abbrev pub KeepsAllBut : List (List ℕ) → Seen → Seen → Type 0
+KeepsAllBut names old new = (m : List ℕ) → list_any (λ n. bytes_eq n m) names ≡ false → new.file m ≡ old.file m
+
+-- What holds where a command that reads and writes these names ends so. No fault of the depot is passed over: where it isn't told, no
+-- count of such faults has changed.
+abbrev pub EndsBy : (reads writes : List (List ℕ)) → Seen → Seen → Ending → Type 0
+EndsBy reads writes old new Never = ⊥
+EndsBy reads writes old new (Untouched P) = SameFiles old new × (IsTrue old.told → P) × NoFaults old new
+EndsBy reads writes old new (Leaves P) = KeepsAllBut writes old new × (IsTrue old.told → P) × NoFaults old new
+EndsBy reads writes old new (Unread P) = SameFiles old new × ReadRose reads old new × (IsTrue old.told → P) × SameWriteFaults old new
+EndsBy reads writes old new (LeavesUnread P) = KeepsAllBut writes old new × ReadRose reads old new × (IsTrue old.told → P) × SameWriteFaults old new
+EndsBy reads writes old new (Unwritten P) = KeepsAllBut writes old new × WriteRose writes old new × (IsTrue old.told → P) × SameReadFaults old new
+EndsBy reads writes old new (LeavesUnwritten P) = KeepsAllBut writes old new × WriteRose writes old new × (IsTrue old.told → P)
+EndsBy reads writes old new (Also F e) = F × EndsBy reads writes old new e

@@ -1,11 +1,13 @@
 -- What each command is to contracts, and how a call ended: by an outcome, of which the line was printed.
 use Rattle.std.specs.Prelude.{◌≡◌, ℕ, ◌⊎◌, IsTrue, List, ◌++◌, take, Option, Some, None, String}
 use Rattle.std.specs.declared.alloc.Global.{Global}
-use Rattle.fab_base.specs.Seen.{Seen, Rose}
+use Rattle.fab_base.specs.Ending.{Either}
+use Rattle.fab_base.specs.Seen.{Seen, Rose, Touches}
 use Rattle.fab_base.specs.Sunk.{Sunk}
+use Rattle.run_files.specs.Names.{Among}
 use Rattle.fabric_tool.specs.Command.{Command, Run, Replay, Show, Convert, Migrate, Make, Snoop, Enode, Live, Help, Version, command}
-use Rattle.fabric_tool.specs.Ending.{EndsBy}
-use Rattle.fabric_tool.specs.Meaning.{Meaning}
+use Rattle.fabric_tool.specs.Ending.{KeepsAllBut}
+use Rattle.fabric_tool.specs.Meaning.{Meaning, EndsAs}
 use Rattle.fabric_tool.specs.Running.{run_meaning}
 use Rattle.fabric_tool.specs.Checking.{replay_meaning, show_meaning}
 use Rattle.fabric_tool.specs.Pairs.{convert_meaning, migrate_meaning}
@@ -32,11 +34,29 @@ meaning (Live k) = live_meaning k
 meaning Help = help_meaning
 meaning Version = version_meaning
 
+-- ---- its files
+
+-- what a command reads, and what it writes
+abbrev pub inputs : Command → List (List ℕ)
+inputs k = (meaning k).reads
+
+abbrev pub outputs : Command → List (List ℕ)
+outputs k = (meaning k).writes
+
+-- no file changes but the outputs
+abbrev pub KeepsOthers : Command → Seen → Seen → Type 0
+KeepsOthers k = KeepsAllBut (outputs k)
+
+-- What a command keeps, however it ends: what is told, the known names, each slot that was open, every file but the outputs, and of names
+-- that are neither inputs nor outputs their counts and what their slots have left. No count falls.
+abbrev pub TouchesOwn : Command → Seen → Seen → Type 0
+TouchesOwn k = Touches (Among (outputs k)) (Either (Among (inputs k)) (Among (outputs k)))
+
 -- ---- how a call ends
 
 -- What holds where a command ends so.
 abbrev pub Holds : Command → Seen → Seen → Outcome → Type 0
-Holds k old new outcome = EndsBy k old new ((meaning k).end old new outcome)
+Holds k = EndsAs (meaning k)
 
 -- The same of words, which may be no command: then nothing is asked of the depot.
 abbrev pub HoldsFor : Option Command → Seen → Seen → Outcome → Type 0

@@ -1,5 +1,5 @@
 -- How `enode` ends: a node is run over the frames of one capture, and what it sends is written as another.
-use Rattle.std.specs.Prelude.{◌≡◌, ℕ, IsTrue, List, ◌++◌, Some, Ok}
+use Rattle.std.specs.Prelude.{◌≡◌, ℕ, IsTrue, List, [], ◌∷◌, ◌++◌, Some, Ok}
 use Rattle.fab_base.specs.Seen.{Seen}
 use Rattle.fab_base.specs.Sunk.{Sunk}
 use Rattle.pcap_file.specs.declared.Record.{Record}
@@ -8,8 +8,8 @@ use Rattle.enode_core.specs.declared.node.Phase.{Phase}
 use Rattle.enode_core.specs.Phases.{phase_of}
 use Rattle.enode_core.specs.Runs.{Input, IsRun, stands}
 use Rattle.enode_run.specs.Files.{NodeTask, node_task, Played, IsUntaken, IsFront, taken_by}
-use Rattle.fabric_tool.specs.Command.{EnodeNames, Enode}
-use Rattle.fabric_tool.specs.Ending.{Ending, Never, Untouched, Leaves, Unread, Unwritten, EndsBy}
+use Rattle.fabric_tool.specs.Command.{EnodeNames}
+use Rattle.fabric_tool.specs.Ending.{Ending, Never, Untouched, Leaves, Unread, Unwritten}
 use Rattle.fabric_tool.specs.Inputs.{LIMITS}
 use Rattle.fabric_tool.specs.Outcome.{phase_text}
 use Rattle.fabric_tool.specs.declared.outcome.Outcome.{Outcome}
@@ -43,9 +43,6 @@ enode_end k old new ends.ReadFault = Unread (Unit {0})
 enode_end k old new ends.WriteFault = Unwritten (HasEnodeFront k old new)
 enode_end k old new ends.Memory = Untouched (Unit {0})
 enode_end k old new _ = Never
-
-abbrev pub EnodeHolds : EnodeNames → Seen → Seen → Outcome → Type 0
-EnodeHolds k old new outcome = EndsBy (Enode k) old new (enode_end k old new outcome)
 
 -- ---- by status
 
@@ -86,6 +83,8 @@ EnodeSays k d _ = ⊥
 
 abbrev pub enode_meaning : EnodeNames → Meaning
 enode_meaning k = record {
+  reads = k.from ∷ [];
+  writes = k.to ∷ [];
   end = enode_end k;
   Done = λ old new before after. IsTrue old.told → EnodeEnded k old new before after;
   Front = HasEnodeFront k;

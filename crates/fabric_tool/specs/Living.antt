@@ -16,8 +16,8 @@ use Rattle.pcap_file.specs.declared.fault.LimitKind.TheVariants as kinds
 use Rattle.fab_windows.specs.Run.{IsRunOver}
 use Rattle.fab_live.specs.Arriving.{arrived, of_face, records_of, AllFaces, IsInSpan}
 use Rattle.fab_live.specs.Live.{IsLiveRun, Begins, BeginsWithin, Stops}
-use Rattle.fabric_tool.specs.Command.{RunNames, LiveWords, Live, by_port}
-use Rattle.fabric_tool.specs.Ending.{Ending, Never, Untouched, Leaves, LeavesUnread, Unwritten, EndsBy}
+use Rattle.fabric_tool.specs.Command.{RunNames, LiveWords, by_port}
+use Rattle.fabric_tool.specs.Ending.{Ending, Never, Untouched, Leaves, LeavesUnread, Unwritten}
 use Rattle.fabric_tool.specs.Inputs.{HasConfig, HasFault, HasPackets, AreCaptures, LIMITS}
 use Rattle.fabric_tool.specs.Left.{HoldsAll, HoldsFronts, AreOldOrFront, IsSafe}
 use Rattle.fabric_tool.specs.Outcome.{run_text}
@@ -139,9 +139,6 @@ live_end k old new ends.WriteFault = Unwritten (HasLiveFront k old new)
 live_end k old new ends.Memory = Leaves (IsLiveRefused k old new)
 live_end k old new _ = Never
 
-abbrev pub LiveHolds : LiveWords → Seen → Seen → Outcome → Type 0
-LiveHolds k old new outcome = EndsBy (Live k) old new (live_end k old new outcome)
-
 -- ---- by status
 
 -- Status 0: the outputs are the session of the stream, and the line with its numbers was printed.
@@ -176,6 +173,8 @@ LiveSays k d _ = ⊥
 
 abbrev pub live_meaning : LiveWords → Meaning
 live_meaning k = record {
+  reads = k.config ∷ k.stream ∷ [];
+  writes = k.journal ∷ by_port k.ins k.outs;
   end = live_end k;
   Done = λ old new before after. IsTrue old.told → LiveEnded k old new before after;
   Front = λ old new. SameFiles old new ⊎ HasLiveFront k old new;

@@ -2,8 +2,8 @@
 use Rattle.std.specs.Prelude.{◌≡◌, ℕ, ◌<◌, IsTrue, List, [], get_or, Some, ◌++◌}
 use Rattle.fab_base.specs.Seen.{Seen}
 use Rattle.fab_vectors.specs.Making.{file_text}
-use Rattle.fabric_tool.specs.Command.{MakeNames, Make}
-use Rattle.fabric_tool.specs.Ending.{Ending, Never, Leaves, Unwritten, Also, EndsBy}
+use Rattle.fabric_tool.specs.Command.{MakeNames}
+use Rattle.fabric_tool.specs.Ending.{Ending, Never, Leaves, Unwritten, Also}
 use Rattle.fabric_tool.specs.Left.{IsOldOrFront}
 use Rattle.fabric_tool.specs.declared.outcome.Outcome.{Outcome}
 use Rattle.fabric_tool.specs.declared.outcome.Outcome.TheVariants as ends
@@ -35,9 +35,6 @@ make_end k old new ends.WriteFault = Unwritten (HasLoadFront k old new)
 make_end k old new ends.Memory = Leaves (HasLoadFront k old new)
 make_end k old new _ = Never
 
-abbrev pub MakeHolds : MakeNames → Seen → Seen → Outcome → Type 0
-MakeHolds k old new outcome = EndsBy (Make k) old new (make_end k old new outcome)
-
 -- ---- by status
 
 -- Status 0 of `make`: the files hold the load of the number, and the line with the number of its frames was printed.
@@ -47,6 +44,8 @@ pub record MakeEnded (k : MakeNames) (new : Seen) (before after : Sunk) : Type 0
 
 abbrev pub make_meaning : MakeNames → Meaning
 make_meaning k = record {
+  reads = [];
+  writes = k.files;
   end = make_end k;
   Done = λ old new before after. IsTrue old.told → MakeEnded k new before after;
   Front = HasLoadFront k;

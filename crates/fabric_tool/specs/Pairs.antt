@@ -1,5 +1,5 @@
 -- How `convert` and `migrate` end, which write what one file holds as another.
-use Rattle.std.specs.Prelude.{◌≡◌, ℕ, ◌<◌, ◌≤◌, ◌↔◌, ◌++◌, Err, IsTrue, List, Ok, Result, Some, length}
+use Rattle.std.specs.Prelude.{◌≡◌, ℕ, ◌<◌, ◌≤◌, ◌↔◌, ◌++◌, [], ◌∷◌, Err, IsTrue, List, Ok, Result, Some, length}
 use Rattle.fab_base.specs.Seen.{Seen}
 use Rattle.fab_base.specs.Sunk.{Sunk}
 use Rattle.pcap_file.specs.declared.Record.{Record}
@@ -11,8 +11,8 @@ use Rattle.pcapng_file.specs.declared.fault.NgLimit.{NgLimit}
 use Rattle.fab_policy.specs.declared.line.Line.{Line}
 use Rattle.fab_migrate.specs.Migrating.{IsNewFront, Migrated, SaysOld}
 use Rattle.fab_migrate.specs.Old.{HasFirstFault, IsOld}
-use Rattle.fabric_tool.specs.Command.{Convert, Migrate, PairNames}
-use Rattle.fabric_tool.specs.Ending.{Also, Ending, EndsBy, Leaves, Never, Unread, Untouched, Unwritten}
+use Rattle.fabric_tool.specs.Command.{PairNames}
+use Rattle.fabric_tool.specs.Ending.{Also, Ending, Leaves, Never, Unread, Untouched, Unwritten}
 use Rattle.fabric_tool.specs.Inputs.{HasCapture, HasPackets, LIMITS, MOST_BYTES}
 use Rattle.fabric_tool.specs.Meaning.{Meaning}
 use Rattle.fabric_tool.specs.Outcome.{converted_text, kind_of, migrated_text}
@@ -33,9 +33,6 @@ convert_end k old new ends.WriteFault = Unwritten (IsFront k.from k.to LIMITS ol
 convert_end k old new ends.Memory = Leaves (IsFront k.from k.to LIMITS old new)
 convert_end k old new _ = Never
 
-abbrev pub ConvertHolds : PairNames → Seen → Seen → Outcome → Type 0
-ConvertHolds k old new outcome = EndsBy (Convert k) old new (convert_end k old new outcome)
-
 -- How `migrate` ends. The output is opened only behind the whole journal.
 abbrev pub migrate_end : PairNames → Seen → Seen → Outcome → Ending
 migrate_end k old new (ends.Migrated entries) = Leaves (Migrated k.from k.to MOST_BYTES old new entries)
@@ -45,9 +42,6 @@ migrate_end k old new ends.ReadFault = Unread (Unit {0})
 migrate_end k old new ends.WriteFault = Unwritten (IsNewFront k.from k.to MOST_BYTES old new)
 migrate_end k old new ends.Memory = Leaves (IsNewFront k.from k.to MOST_BYTES old new)
 migrate_end k old new _ = Never
-
-abbrev pub MigrateHolds : PairNames → Seen → Seen → Outcome → Type 0
-MigrateHolds k old new outcome = EndsBy (Migrate k) old new (migrate_end k old new outcome)
 
 -- ---- by status
 
@@ -99,6 +93,8 @@ MigrateSays bytes _ = ⊥
 
 abbrev pub convert_meaning : PairNames → Meaning
 convert_meaning k = record {
+  reads = k.from ∷ [];
+  writes = k.to ∷ [];
   end = convert_end k;
   Done = λ old new before after. IsTrue old.told → ConvertEnded k old new before after;
   Front = IsFront k.from k.to LIMITS;
@@ -108,6 +104,8 @@ convert_meaning k = record {
 
 abbrev pub migrate_meaning : PairNames → Meaning
 migrate_meaning k = record {
+  reads = k.from ∷ [];
+  writes = k.to ∷ [];
   end = migrate_end k;
   Done = λ old new before after. IsTrue old.told → MigrateEnded k old new before after;
   Front = IsNewFront k.from k.to MOST_BYTES;

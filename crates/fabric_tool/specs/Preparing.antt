@@ -6,11 +6,10 @@ use Rattle.fab_config.specs.Settings.{is_in_range}
 use Rattle.pcap_file.specs.Capture.{HEAD}
 use Rattle.fab_policy.specs.Outputs.{state_of}
 use Rattle.fab_policy.specs.Standing.{Contents}
-use Rattle.fabric_tool.specs.Command.{RunNames, LiveWords}
+use Rattle.fabric_tool.specs.Command.{RunNames, LiveWords, Run, Live}
 use Rattle.run_files.specs.Names.{Among}
-use Rattle.fabric_tool.specs.Running.{RunHolds}
+use Rattle.fabric_tool.specs.Ends.{Holds}
 use Rattle.fabric_tool.specs.Inputs.{HasConfig, MOST_BYTES, MOST_FRAMES}
-use Rattle.fabric_tool.specs.Living.{LiveHolds}
 use Rattle.fabric_tool.specs.Reading.{AreHeads}
 use Rattle.fabric_tool.specs.declared.outcome.Outcome.{Outcome}
 use Rattle.fabric_tool.specs.declared.running.Prepared.{Prepared}
@@ -30,7 +29,7 @@ pub record IsPrepared (k : RunNames) (old new : Seen) (result : Result Prepared 
   pub config : IsTrue old.told → IfOk result (λ p. HasConfig old k.config p.fabric.settings)
   pub heads : IfOk result (λ p. AreHeads old new k.ins p.ins.items)
   pub left : IfOk result (λ p. (p.budget.bytes + HEAD * length k.ins ≡ MOST_BYTES) × (p.budget.frames ≡ MOST_FRAMES))
-  pub ended : IfErr result (RunHolds k old new)
+  pub ended : IfErr result (Holds (Run k) old new)
   pub counts : OnOk result (NoFaults old new)
 
 -- The configuration was read, and a fabric of it was made, or `live` ends so.
@@ -38,5 +37,5 @@ pub record IsLivePrepared (k : LiveWords) (old new : Seen) (result : Result Cont
   pub reads : Reads k.config old new
   pub fabric : IfOk result (λ F. IsNew F k.outs)
   pub config : IsTrue old.told → IfOk result (λ F. HasConfig old k.config F.settings)
-  pub ended : IfErr result (LiveHolds k old new)
+  pub ended : IfErr result (Holds (Live k) old new)
   pub counts : OnOk result (NoFaults old new)

@@ -1,12 +1,12 @@
 -- How `run` ends: a forwarder runs over the captures of its ports.
-use Rattle.std.specs.Prelude.{◌≡◌, ℕ, ◌⊎◌, ◌++◌, IsTrue, List, None}
+use Rattle.std.specs.Prelude.{◌≡◌, ℕ, ◌⊎◌, ◌∷◌, ◌++◌, IsTrue, List, None}
 use Rattle.fab_base.specs.Seen.{SameFiles, Seen}
 use Rattle.fab_base.specs.Sunk.{Sunk}
 use Rattle.fab_config.specs.Settings.{Settings}
 use Rattle.fab_gather.specs.Looks.{Opened}
 use Rattle.pcap_file.specs.declared.fault.CapWhy.{CapWhy}
-use Rattle.fabric_tool.specs.Command.{Run, RunNames}
-use Rattle.fabric_tool.specs.Ending.{Ending, EndsBy, Leaves, LeavesUnread, LeavesUnwritten, Never, Untouched}
+use Rattle.fabric_tool.specs.Command.{RunNames}
+use Rattle.fabric_tool.specs.Ending.{Ending, Leaves, LeavesUnread, LeavesUnwritten, Never, Untouched}
 use Rattle.fabric_tool.specs.Inputs.{HasBadHead, HasFault, HasInputs, StopsBy, stop_of}
 use Rattle.fabric_tool.specs.Left.{HasFrontPart, HasRun, HasStopped, IsRunUnread}
 use Rattle.fabric_tool.specs.Meaning.{Meaning}
@@ -31,9 +31,6 @@ run_end k old new ends.ReadFault = LeavesUnread (IsRunUnread k old new)
 run_end k old new ends.WriteFault = LeavesUnwritten (SameFiles old new ⊎ HasFrontPart k old new)
 run_end k old new ends.Memory = Leaves (SameFiles old new ⊎ HasFrontPart k old new)
 run_end k old new _ = Never
-
-abbrev pub RunHolds : RunNames → Seen → Seen → Outcome → Type 0
-RunHolds k old new outcome = EndsBy (Run k) old new (run_end k old new outcome)
 
 -- ---- by status
 
@@ -63,6 +60,8 @@ RunSays k d _ = ⊥
 
 abbrev pub run_meaning : RunNames → Meaning
 run_meaning k = record {
+  reads = k.config ∷ k.ins;
+  writes = k.journal ∷ k.outs;
   end = run_end k;
   Done = λ old new before after. IsTrue old.told → RunEnded k old new before after;
   Front = λ old new. SameFiles old new ⊎ HasFrontPart k old new;

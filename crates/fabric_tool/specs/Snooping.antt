@@ -17,8 +17,8 @@ use Rattle.fip_snoop.specs.declared.forwarder.Forwarder.{Forwarder}
 use Rattle.fip_snoop.specs.declared.way.Way.TheVariants.{Up}
 use Rattle.snoop_run.specs.Bridged.{HasBridged, HasFronts, HasStop}
 use Rattle.snoop_run.specs.Crossing.{crossing, IsFirstUnread}
-use Rattle.fabric_tool.specs.Command.{SnoopNames, Snoop}
-use Rattle.fabric_tool.specs.Ending.{Ending, Never, Untouched, Leaves, Unread, Unwritten, EndsBy}
+use Rattle.fabric_tool.specs.Command.{SnoopNames}
+use Rattle.fabric_tool.specs.Ending.{Ending, Never, Untouched, Leaves, Unread, Unwritten}
 use Rattle.fabric_tool.specs.Inputs.{HasConfig, HasFault, LIMITS}
 use Rattle.fabric_tool.specs.Outcome.{bridged_text}
 use Rattle.fabric_tool.specs.declared.outcome.Outcome.{Outcome}
@@ -100,9 +100,6 @@ snoop_end k old new ends.WriteFault = Unwritten (HasSnoopedFront k old new)
 snoop_end k old new ends.Memory = Leaves (SameFiles old new ⊎ HasSnoopedFront k old new)
 snoop_end k old new _ = Never
 
-abbrev pub SnoopHolds : SnoopNames → Seen → Seen → Outcome → Type 0
-SnoopHolds k old new outcome = EndsBy (Snoop k) old new (snoop_end k old new outcome)
-
 -- ---- by status
 
 -- Status 0: the outputs are so, and the line with the two numbers was printed.
@@ -147,6 +144,8 @@ SnoopSays k d _ = ⊥
 
 abbrev pub snoop_meaning : SnoopNames → Meaning
 snoop_meaning k = record {
+  reads = k.config ∷ k.ins;
+  writes = k.outs;
   end = snoop_end k;
   Done = λ old new before after. IsTrue old.told → SnoopEnded k old new before after;
   Front = HasSnoopFront k;

@@ -4,8 +4,9 @@ use Rattle.std.specs.declared.alloc.Global.{Global}
 use Rattle.fab_base.specs.Seen.{Seen, Rose}
 use Rattle.fab_base.specs.Sunk.{Sunk}
 use Rattle.pcap_file.specs.declared.fault.LimitKind.{LimitKind}
-use Rattle.fabric_tool.specs.Command.{Command, command, ReadRose, WriteRose}
-use Rattle.fabric_tool.specs.Ends.{Holds, HoldsFor, meaning}
+use Rattle.fabric_tool.specs.Command.{Command, command}
+use Rattle.fabric_tool.specs.Ending.{ReadRose, WriteRose}
+use Rattle.fabric_tool.specs.Ends.{Holds, HoldsFor, inputs, meaning, outputs}
 use Rattle.fabric_tool.specs.Outcome.{status_of, line_of}
 use Rattle.fabric_tool.specs.declared.outcome.Outcome.{Outcome}
 use Rattle.fabric_tool.specs.declared.outcome.Outcome.TheVariants as ends
@@ -21,8 +22,8 @@ pub record Printed (words : List (String Global)) (old new : Seen) (before after
 
 -- no count of an input's reads, an output's writes or the sink rose
 pub record IsQuiet (k : Command) (old new : Seen) (before after : Sunk) : Type 0 where
-  pub reads : ¬ ReadRose k old new
-  pub writes : ¬ WriteRose k old new
+  pub reads : ¬ ReadRose (inputs k) old new
+  pub writes : ¬ WriteRose (outputs k) old new
   pub sink : ¬ Rose before.faults after.faults
 
 -- ---- done

@@ -1,5 +1,5 @@
 -- How `--help` and `--version` end.
-use Rattle.std.specs.Prelude.{◌≡◌, ℕ, ◌++◌, IsTrue, List}
+use Rattle.std.specs.Prelude.{◌≡◌, ℕ, ◌++◌, IsTrue, List, []}
 use Rattle.fab_base.specs.Ending.{NoFaults}
 use Rattle.fab_base.specs.Seen.{SameFiles, SameSlots, Seen}
 use Rattle.fab_base.specs.Sunk.{Sunk}
@@ -29,6 +29,8 @@ pub record TextEnded (text : List ℕ) (old new : Seen) (before after : Sunk) : 
 
 abbrev pub text_meaning : Outcome → List ℕ → (Seen → Seen → Outcome → Ending) → Meaning
 text_meaning outcome text end = record {
+  reads = [];
+  writes = [];
   end = end;
   Done = TextEnded text;
   Front = SameFiles;

@@ -1,7 +1,7 @@
 //! The command `convert`.
 ghost use Rattle.std.specs.Prelude.{◌≡◌, true, codes};
 ghost use Rattle.fabric_tool.specs.Command as spec;
-ghost use Rattle.fabric_tool.specs.Pairs.{ConvertHolds};
+ghost use Rattle.fabric_tool.specs.Ends.{Holds, TouchesOwn};
 ghost use Rattle.fabric_tool.specs.Outcome.{kind_of};
 ghost use Rattle.fabric_tool.specs.Reading.{unconverted_by};
 
@@ -17,9 +17,9 @@ use std::alloc::Global;
 pub(crate) fn convert_file<D: Depot>(alloc: Global, words: &[String], depot: &mut D) -> Outcome
     requires convert { spec.is_pair (codes "convert") words.now ≡ true }
     requires known { spec.AllKnown (D.seen depot.old) words.now }
-    ensures holds { ConvertHolds (spec.pair_of words.now) (D.seen depot.old)
-        (D.seen depot.new) result }
-    ensures touches { spec.TouchesOwn (spec.Convert (spec.pair_of words.now))
+    ensures holds { Holds (spec.Convert (spec.pair_of words.now))
+        (D.seen depot.old) (D.seen depot.new) result }
+    ensures touches { TouchesOwn (spec.Convert (spec.pair_of words.now))
         (D.seen depot.old) (D.seen depot.new) }
 {
     let limits = Budget {

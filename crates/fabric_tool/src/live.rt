@@ -1,7 +1,7 @@
 //! The command `live`.
 ghost use Rattle.std.specs.Prelude.{◌≡◌, true};
 ghost use Rattle.fabric_tool.specs.Command as spec;
-ghost use Rattle.fabric_tool.specs.Living.{LiveHolds};
+ghost use Rattle.fabric_tool.specs.Ends.{Holds, TouchesOwn};
 ghost use Rattle.fabric_tool.specs.Opening.{RecordedOpened, lived_by};
 ghost use Rattle.fabric_tool.specs.Preparing.{IsLivePrepared};
 
@@ -39,9 +39,9 @@ pub(crate) fn live<R: Threads + Sync, D: Depot>(
 ) -> Outcome
     requires live { spec.is_live words.now ≡ true }
     requires known { spec.AllKnown (D.seen depot.old) words.now }
-    ensures holds { LiveHolds (spec.live_of words.now) (D.seen depot.old) (D.seen depot.new)
-        result }
-    ensures touches { spec.TouchesOwn (spec.Live (spec.live_of words.now))
+    ensures holds { Holds (spec.Live (spec.live_of words.now))
+        (D.seen depot.old) (D.seen depot.new) result }
+    ensures touches { TouchesOwn (spec.Live (spec.live_of words.now))
         (D.seen depot.old) (D.seen depot.new) }
 {
     // Law: what a legal journal says of each state that it goes through; that without records there

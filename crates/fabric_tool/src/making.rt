@@ -1,7 +1,7 @@
 //! The command `make`.
 ghost use Rattle.std.specs.Prelude.{◌≡◌, true};
 ghost use Rattle.fabric_tool.specs.Command as spec;
-ghost use Rattle.fabric_tool.specs.Load.{MakeHolds};
+ghost use Rattle.fabric_tool.specs.Ends.{Holds, TouchesOwn};
 ghost use Rattle.fabric_tool.specs.Opening.{FilesOpened};
 
 use crate::command::file_at;
@@ -25,9 +25,9 @@ pub(crate) struct LoadFiles {
 pub(crate) fn make<D: Depot>(alloc: Global, number: u64, words: &[String], depot: &mut D) -> Outcome
     requires make { spec.is_make words.now ≡ true }
     requires known { spec.AllKnown (D.seen depot.old) words.now }
-    ensures holds { MakeHolds (spec.make_of number words.now) (D.seen depot.old) (D.seen depot.new)
-        result }
-    ensures touches { spec.TouchesOwn (spec.Make (spec.make_of number words.now))
+    ensures holds { Holds (spec.Make (spec.make_of number words.now))
+        (D.seen depot.old) (D.seen depot.new) result }
+    ensures touches { TouchesOwn (spec.Make (spec.make_of number words.now))
         (D.seen depot.old) (D.seen depot.new) }
 {
     let files = match open_files(depot, words) {

@@ -1,7 +1,7 @@
 //! The command `migrate`.
 ghost use Rattle.std.specs.Prelude.{◌≡◌, true, codes};
 ghost use Rattle.fabric_tool.specs.Command as spec;
-ghost use Rattle.fabric_tool.specs.Pairs.{MigrateHolds};
+ghost use Rattle.fabric_tool.specs.Ends.{Holds, TouchesOwn};
 ghost use Rattle.fabric_tool.specs.Reading.{unmigrated_by};
 
 use crate::limits::MOST_BYTES;
@@ -16,9 +16,9 @@ use std::alloc::Global;
 pub(crate) fn migrate_file<D: Depot>(alloc: Global, words: &[String], depot: &mut D) -> Outcome
     requires migrate { spec.is_pair (codes "migrate") words.now ≡ true }
     requires known { spec.AllKnown (D.seen depot.old) words.now }
-    ensures holds { MigrateHolds (spec.pair_of words.now) (D.seen depot.old)
-        (D.seen depot.new) result }
-    ensures touches { spec.TouchesOwn (spec.Migrate (spec.pair_of words.now))
+    ensures holds { Holds (spec.Migrate (spec.pair_of words.now))
+        (D.seen depot.old) (D.seen depot.new) result }
+    ensures touches { TouchesOwn (spec.Migrate (spec.pair_of words.now))
         (D.seen depot.old) (D.seen depot.new) }
 {
     match migrate(

@@ -1,7 +1,7 @@
 //! The command `enode`.
 ghost use Rattle.std.specs.Prelude.{◌≡◌, ◌≤◌, true};
 ghost use Rattle.fabric_tool.specs.Command as spec;
-ghost use Rattle.fabric_tool.specs.Enode.{EnodeHolds};
+ghost use Rattle.fabric_tool.specs.Ends.{Holds, TouchesOwn};
 ghost use Rattle.fabric_tool.specs.Opening.{stood_by};
 
 use crate::limits::{MOST_BYTES, MOST_FRAMES};
@@ -26,9 +26,9 @@ pub(crate) fn enode<D: Depot>(
     requires start { start ≤ 4294967295999 }
     requires enode { spec.is_enode words.now ≡ true }
     requires known { spec.AllKnown (D.seen depot.old) words.now }
-    ensures holds { EnodeHolds (spec.enode_of start own words.now) (D.seen depot.old)
-        (D.seen depot.new) result }
-    ensures touches { spec.TouchesOwn (spec.Enode (spec.enode_of start own words.now))
+    ensures holds { Holds (spec.Enode (spec.enode_of start own words.now))
+        (D.seen depot.old) (D.seen depot.new) result }
+    ensures touches { TouchesOwn (spec.Enode (spec.enode_of start own words.now))
         (D.seen depot.old) (D.seen depot.new) }
 {
     let limits = Budget {

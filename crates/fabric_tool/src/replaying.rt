@@ -2,9 +2,10 @@
 ghost use Rattle.std.specs.Prelude.{◌≡◌, ◌≤◌, true, length, IsTrue};
 ghost use Rattle.fab_base.specs.Seen.{Seen};
 ghost use Rattle.fabric_tool.specs.Checking.{GivenRead, HasGiven, IsChecked, JournalRead};
-ghost use Rattle.fabric_tool.specs.Checking.{OutputsRead, ReplayHolds, ShowHolds, Tells};
+ghost use Rattle.fabric_tool.specs.Checking.{OutputsRead, Tells};
 ghost use Rattle.fabric_tool.specs.Checking.{command_of, refused_by, unread_by};
 ghost use Rattle.fabric_tool.specs.Command as spec;
+ghost use Rattle.fabric_tool.specs.Ends.{Holds, TouchesOwn};
 ghost use Rattle.fabric_tool.specs.Inputs as limits;
 
 use crate::command::{Width, count_of, output_at, port_count};
@@ -26,9 +27,9 @@ use std::alloc::Global;
 pub(crate) fn replay<D: Depot>(alloc: Global, words: &[String], depot: &mut D) -> Outcome
     requires pairs { spec.are_pairs words.now ≡ true }
     requires known { spec.AllKnown (D.seen depot.old) words.now }
-    ensures holds { ReplayHolds (spec.run_of words.now) (D.seen depot.old) (D.seen depot.new)
-        result }
-    ensures touches { spec.TouchesOwn (spec.Replay (spec.run_of words.now))
+    ensures holds { Holds (spec.Replay (spec.run_of words.now))
+        (D.seen depot.old) (D.seen depot.new) result }
+    ensures touches { TouchesOwn (spec.Replay (spec.run_of words.now))
         (D.seen depot.old) (D.seen depot.new) }
 {
     match check_files(alloc, words, depot, Width::Two) {
@@ -41,9 +42,9 @@ pub(crate) fn replay<D: Depot>(alloc: Global, words: &[String], depot: &mut D) -
 pub(crate) fn show<D: Depot>(alloc: Global, words: &[String], depot: &mut D) -> Outcome
     requires singles { spec.are_singles words.now ≡ true }
     requires known { spec.AllKnown (D.seen depot.old) words.now }
-    ensures holds { ShowHolds (spec.show_of words.now) (D.seen depot.old) (D.seen depot.new)
-        result }
-    ensures touches { spec.TouchesOwn (spec.Show (spec.show_of words.now))
+    ensures holds { Holds (spec.Show (spec.show_of words.now))
+        (D.seen depot.old) (D.seen depot.new) result }
+    ensures touches { TouchesOwn (spec.Show (spec.show_of words.now))
         (D.seen depot.old) (D.seen depot.new) }
 {
     match check_files(alloc, words, depot, Width::One) {
@@ -76,7 +77,7 @@ fn check_files<D: Depot>(
     requires known { spec.AllKnown (D.seen depot.old) words.now }
     ensures checks { IsChecked width (spec.names_of width words.now) (D.seen depot.old)
         (D.seen depot.new) result }
-    ensures touches { spec.TouchesOwn (command_of width (spec.names_of width words.now))
+    ensures touches { TouchesOwn (command_of width (spec.names_of width words.now))
         (D.seen depot.old) (D.seen depot.new) }
 {
     let (config, journal) = match config_and_journal(alloc, depot, words, width) {
@@ -123,7 +124,7 @@ fn check<D: Depot>(
     ensures checks { (a : Seen) → HasGiven (spec.names_of width words.now) config journal.now a
         (D.seen depot.old) → IsChecked width (spec.names_of width words.now) a (D.seen depot.new)
         result }
-    ensures touches { spec.TouchesOwn (command_of width (spec.names_of width words.now))
+    ensures touches { TouchesOwn (command_of width (spec.names_of width words.now))
         (D.seen depot.old) (D.seen depot.new) }
 {
     let mut budget = Budget {

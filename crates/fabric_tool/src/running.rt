@@ -2,7 +2,7 @@
 ghost use Rattle.std.specs.Prelude.{◌≡◌, IsTrue, true};
 ghost use Rattle.fab_config.specs.Settings.{is_in_range};
 ghost use Rattle.fabric_tool.specs.Command as spec;
-ghost use Rattle.fabric_tool.specs.Running.{RunHolds};
+ghost use Rattle.fabric_tool.specs.Ends.{Holds, TouchesOwn};
 ghost use Rattle.fabric_tool.specs.Left.{LegalIsSafe};
 ghost use Rattle.fabric_tool.specs.Opening.{ran_by, stopped_by};
 ghost use Rattle.fabric_tool.specs.Preparing.{IsPrepared};
@@ -45,8 +45,9 @@ pub(crate) fn run<R: Threads + Wait + Sync, D: Depot, G: Gate + Sync>(
 ) -> Outcome
     requires run { spec.are_pairs words.now ≡ true }
     requires known { spec.AllKnown (D.seen depot.old) words.now }
-    ensures holds { RunHolds (spec.run_of words.now) (D.seen depot.old) (D.seen depot.new) result }
-    ensures touches { spec.TouchesOwn (spec.Run (spec.run_of words.now))
+    ensures holds { Holds (spec.Run (spec.run_of words.now))
+        (D.seen depot.old) (D.seen depot.new) result }
+    ensures touches { TouchesOwn (spec.Run (spec.run_of words.now))
         (D.seen depot.old) (D.seen depot.new) }
 {
     // Law: what a legal journal says of each state that it goes through, and that without records

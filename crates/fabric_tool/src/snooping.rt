@@ -1,8 +1,8 @@
 //! The command `snoop`.
 ghost use Rattle.std.specs.Prelude.{◌≡◌, true};
 ghost use Rattle.fabric_tool.specs.Command as spec;
+ghost use Rattle.fabric_tool.specs.Ends.{Holds, TouchesOwn};
 ghost use Rattle.fabric_tool.specs.Opening.{crossed_by};
-ghost use Rattle.fabric_tool.specs.Snooping.{SnoopHolds};
 
 use crate::command::sides_of;
 use crate::inputs::config_of;
@@ -21,13 +21,13 @@ use std::alloc::Global;
 pub(crate) fn snoop<D: Depot>(alloc: Global, words: &[String], depot: &mut D) -> Outcome
     requires snoop { spec.is_snoop words.now ≡ true }
     requires known { spec.AllKnown (D.seen depot.old) words.now }
-    ensures holds { SnoopHolds (spec.snoop_of words.now) (D.seen depot.old) (D.seen depot.new)
-        result }
-    ensures touches { spec.TouchesOwn (spec.Snoop (spec.snoop_of words.now))
+    ensures holds { Holds (spec.Snoop (spec.snoop_of words.now))
+        (D.seen depot.old) (D.seen depot.new) result }
+    ensures touches { TouchesOwn (spec.Snoop (spec.snoop_of words.now))
         (D.seen depot.old) (D.seen depot.new) }
 {
     // Laws: data goes up and down exactly by logins, and no ENode gets what another one sent;
-    // SnoopHolds says so too.
+    // HasSnooped says so too.
     data_goes_up();
     data_goes_down();
     enodes_are_apart();

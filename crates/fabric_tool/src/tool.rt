@@ -2,7 +2,7 @@
 ghost use Rattle.std.specs.Prelude.{◌≡◌, ◌≤◌, ◌⊎◌, IsTrue, Some, None};
 ghost use Rattle.fab_base.specs.Seen.{Rose};
 ghost use Rattle.fabric_tool.specs.Command as spec;
-ghost use Rattle.fabric_tool.specs.Ends.{Ends, Holds, HoldsFor, Prints};
+ghost use Rattle.fabric_tool.specs.Ends.{Ends, Holds, HoldsFor, KeepsOthers, Prints, TouchesOwn};
 ghost use Rattle.fabric_tool.specs.Texts.{IsUntouched};
 ghost use Rattle.fabric_tool.specs.Rechecking.{IsRechecked, IsReplayed};
 ghost use Rattle.fabric_tool.specs.Statuses.{Done, OfCommand, IsRefused, IsPastLimit};
@@ -69,11 +69,11 @@ pub fn fabric_tool<R: Threads + Wait + Sync, D: Depot, K: Sink, G: Gate + Sync>(
     ensures statuses { result ≤ 6 }
     // No file changes but the outputs.
     ensures others { (k : spec.Command) → spec.command words.now ≡ Some k →
-        spec.KeepsOthers k (D.seen depot.old) (D.seen depot.new) }
+        KeepsOthers k (D.seen depot.old) (D.seen depot.new) }
     // No slot that was open is closed or changed, no count of another name rises and none falls,
     // and of slots of other names nothing is read.
     ensures touches { (k : spec.Command) → spec.command words.now ≡ Some k →
-        spec.TouchesOwn k (D.seen depot.old) (D.seen depot.new) }
+        TouchesOwn k (D.seen depot.old) (D.seen depot.new) }
     // The output of `convert` is as it was, or a prefix of the capture of the input's packets; that
     // of `migrate` is as it was, or a prefix of the input's journal in format 2; those of `snoop`
     // and `enode` are as they were, or prefixes of what status 0 leaves.
@@ -117,7 +117,7 @@ fn run_and_report<R: Threads + Wait + Sync, D: Depot, K: Sink, G: Gate + Sync>(
     ensures ends { Ends words.now (D.seen depot.old) (D.seen depot.new) (K.sunk say.old)
         (K.sunk say.new) result }
     ensures touches { (k : spec.Command) → spec.command words.now ≡ Some k →
-        spec.TouchesOwn k (D.seen depot.old) (D.seen depot.new) }
+        TouchesOwn k (D.seen depot.old) (D.seen depot.new) }
 {
     let outcome = outcome_of(rt, alloc, words, depot, gate);
     report(alloc, outcome, say)
@@ -133,7 +133,7 @@ fn outcome_of<R: Threads + Wait + Sync, D: Depot, G: Gate + Sync>(
     requires { spec.AllKnown (D.seen depot.old) words.now }
     ensures holds { HoldsFor (spec.command words.now) (D.seen depot.old) (D.seen depot.new) result }
     ensures touches { (k : spec.Command) → spec.command words.now ≡ Some k →
-        spec.TouchesOwn k (D.seen depot.old) (D.seen depot.new) }
+        TouchesOwn k (D.seen depot.old) (D.seen depot.new) }
 {
     match form_of(words) {
         Some(form) => outcome_by(rt, alloc, form, words, depot, gate),
@@ -153,7 +153,7 @@ fn outcome_by<R: Threads + Wait + Sync, D: Depot, G: Gate + Sync>(
     requires form { spec.form_of words.now ≡ Some form }
     requires known { spec.AllKnown (D.seen depot.old) words.now }
     ensures holds { Holds (spec.named words.now form) (D.seen depot.old) (D.seen depot.new) result }
-    ensures touches { spec.TouchesOwn (spec.named words.now form)
+    ensures touches { TouchesOwn (spec.named words.now form)
         (D.seen depot.old) (D.seen depot.new) }
 {
     match form {

@@ -9,7 +9,8 @@ use Rattle.fab_config.specs.Settings.{Settings}
 use Rattle.pcap_file.specs.Capture.{head_bytes}
 use Rattle.fab_gather.specs.Looks.{Opened}
 use Rattle.run_files.specs.Names.{AnyRose}
-use Rattle.fabric_tool.specs.Command.{RunNames, Command, inputs, outputs, command}
+use Rattle.fabric_tool.specs.Command.{RunNames, Command, command}
+use Rattle.fabric_tool.specs.Ends.{inputs, outputs}
 use Rattle.fabric_tool.specs.Statuses.{IsQuiet, IsNamed, Says}
 use Rattle.fabric_tool.specs.declared.outcome.Outcome.{Outcome}
 

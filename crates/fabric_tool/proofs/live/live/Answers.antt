@@ -1,6 +1,6 @@
 use Rattle.std.proofs.Common.{inl, refl, sym, ◌∙◌, subst}
 use Rattle.fabric_tool.specs.Command.{Live, live_of}
-use Rattle.fabric_tool.specs.Living.{LiveHolds}
+use Rattle.fabric_tool.specs.Ends.{Holds}
 use Rattle.fabric_tool.proofs.LivingLemmas.{known_stream, known_on, in_as, stream_closed, not_recorded, given_live, given_as, live_ended, lives_as}
 use Rattle.fabric_tool.proofs.TouchLemmas.{own_input, stream_own, recorded_own, lived_own}
 use Rattle.fabric_tool.proofs.live.live.Goals as goal
@@ -56,7 +56,7 @@ returns g c =
     let old = seen c.args.depot.now in
     let b = seen c.run_live.new.depot in
     record {
-      holds = subst (LiveHolds (live_of c.args.words.now) old b) (sym c.lived.ensures)
+      holds = subst (Holds (Live (live_of c.args.words.now)) old b) (sym c.lived.ensures)
           (live_ended c.args.words.now c.requires.live c.legal_is_safe.ensures c.a_capture_of_packets_is_read_back.ensures c.records_come_later.ensures.nothing c.in-Ok.fabric.settings p.fabric.range
           old (seen c.fabric_of.new.depot) (seen c.open_in.new.self) (seen c.open_recorded.new.depot) p.config p.reads p.counts
           c.in-Ok-open_in.stream (in_as c.word_at.ensures c.in-Ok-open_in.ensures.opens) c.in-Ok-open_recorded.recorded c.in-Ok-open_recorded.ensures.opens

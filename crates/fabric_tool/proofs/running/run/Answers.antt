@@ -1,7 +1,7 @@
 use Rattle.std.proofs.Common.{IsTrue, sym, ◌∙◌, subst}
 use Rattle.fab_base.specs.Places.{name_at}
 use Rattle.fabric_tool.specs.Command.{Run, run_of, input_at, port_count}
-use Rattle.fabric_tool.specs.Running.{RunHolds}
+use Rattle.fabric_tool.specs.Ends.{Holds}
 use Rattle.run_files.proofs.NameLemmas.{length-counted}
 use Rattle.fab_base.proofs.EndingLemmas.{none_then}
 use Rattle.fabric_tool.proofs.RanLemmas.{not_opened, some_ports, same_count, one_a_port, given_as, runs_as, windows_ended}
@@ -57,7 +57,7 @@ returns g c =
     let p = c.in-Ok.ensures.prepares in
     let opens = c.in-Ok-open_outputs.ensures.opens in
     record {
-      holds = subst (RunHolds k old z) (sym c.ran.ensures)
+      holds = subst (Holds (Run k) old z) (sym c.ran.ensures)
           (windows_ended c.args.words.now c.requires.run c.in-Ok.ready.fabric.settings old m a z c.in-Ok.ready.ins.items c.in-Ok-open_outputs.outputs.journal c.in-Ok-open_outputs.outputs.outs.items c.in-Ok.ready.budget
           p.fabric.range c.legal_is_safe.ensures p.config p.touches p.heads opens.opens opens.slots p.left.0 p.left.1 (none_then old m a p.counts (opens.opens.reads, opens.counts))
           c.run_windows.result (runs_as c.deref_mut.ensures.value c.as_slice.ensures.value c.run_windows.ensures.runs));

@@ -1,6 +1,6 @@
 use Rattle.std.proofs.Common.{inl, refl, sym, subst}
 use Rattle.fabric_tool.specs.Command.{Snoop, snoop_of}
-use Rattle.fabric_tool.specs.Snooping.{SnoopHolds}
+use Rattle.fabric_tool.specs.Ends.{Holds}
 use Rattle.fabric_tool.proofs.RanLemmas.{config_as}
 use Rattle.fabric_tool.proofs.SideLemmas.{known_sides}
 use Rattle.fabric_tool.proofs.SnoopLemmas.{not_configured, bridge_ended, bridges_as}
@@ -25,7 +25,7 @@ returns g c =
     let b = seen c.config_of.new.depot in
     let z = seen c.run_bridge.new.depot in
     record {
-      holds = subst (SnoopHolds k a z) (sym c.crossed.ensures)
+      holds = subst (Holds (Snoop k) a z) (sym c.crossed.ensures)
           (bridge_ended k c.in-Ok.config a b z (config_as c.word_at.ensures c.in-Ok.ensures.reads) c.data_goes_up.ensures c.data_goes_down.ensures c.enodes_are_apart.ensures c.run_bridge.result (bridges_as c.sides_of.ensures.value c.run_bridge.ensures.bridges));
       touches = bridge_own k a b z (config_as c.word_at.ensures c.in-Ok.ensures.reads).reads (bridges_as c.sides_of.ensures.value c.run_bridge.ensures.bridges);
     }

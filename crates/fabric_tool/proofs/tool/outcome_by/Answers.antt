@@ -1,6 +1,6 @@
 use Rattle.std.proofs.Common.{Some, sym, ap, ◌∙◌, subst}
-use Rattle.fabric_tool.specs.Command.{TouchesOwn, named}
-use Rattle.fabric_tool.specs.Ends.{Holds}
+use Rattle.fabric_tool.specs.Command.{named}
+use Rattle.fabric_tool.specs.Ends.{Holds, TouchesOwn}
 use Rattle.fabric_tool.specs.declared.command.Form.{Form}
 use Rattle.fabric_tool.specs.declared.command.Form.TheVariants as forms
 use Rattle.fabric_tool.proofs.FormLemmas.{have_form}
