@@ -4,11 +4,14 @@ use Rattle.std.specs.Prelude.{Result, Vec}
 use Rattle.std.specs.declared.alloc.Global.{Global}
 use Rattle.fab_base.specs.Ending.{NoFaults, CountsRead}
 use Rattle.fab_base.specs.Seen.{Seen, Reads, Rose, OpensIn, OpensOut, PutsAll, SameReadFaults}
+use Rattle.fab_base.specs.Whole as base
 use Rattle.fab_base.specs.declared.values.Failed.{Failed}
+use Rattle.fab_base.specs.declared.whole.WholeError.{WholeError}
+use Rattle.fab_base.specs.declared.whole.WholeError.TheVariants as wholes
 use Rattle.fab_base.proofs.SeenLemmas.{reads_trans, reads_touches, told_stays, rose_later}
 use Rattle.fab_migrate.specs.Migrating.{Migrates, SaysOld, Untouched, Begun, old_end}
 use Rattle.fab_migrate.specs.Old.{IsOld, new_text}
-use Rattle.fab_migrate.specs.OldWords.{Rewrites, WholeRead}
+use Rattle.fab_migrate.specs.OldWords.{Rewrites, WholeRead, old_error_of}
 use Rattle.fab_migrate.specs.declared.old.MigrateError.TheVariants as ends
 use Rattle.fab_migrate.specs.declared.old.OldError.{OldError}
 use Rattle.fab_migrate.specs.declared.old.OldError.TheVariants as olds
@@ -22,29 +25,27 @@ module _ (from to : List ℕ) (slot limit : ℕ) (a b c : Seen) (opens : OpensIn
   told_b : IsTrue a.told → IsTrue b.told
   told_b told = told_stays from a b opens.reads.keeps told
 
-  reads : (result : Result (Vec ℕ Global) OldError) → WholeRead slot limit b c result → Reads from a c
+  reads : (result : Result (Vec ℕ Global) WholeError) → base.WholeRead slot limit b c result → Reads from a c
   reads result r = reads_trans from a b c opens.reads (subst (λ n. Reads n b c) is_name r.reads)
 
   -- no fault was counted so far
-  none_counted : (result : Result (Vec ℕ Global) OldError) → WholeRead slot limit b c result → SameReadFaults b c → NoFaults a c
+  none_counted : (result : Result (Vec ℕ Global) WholeError) → base.WholeRead slot limit b c result → SameReadFaults b c → NoFaults a c
   none_counted result r counts = (λ m. counts m ∙ opens.counts m, λ m. r.reads.writes m ∙ opens.reads.writes m)
 
   -- ---- the input isn't read whole
 
-  unread_cause : (e : OldError) → WholeRead slot limit b c (Err e) → CountsRead from (old_end e) a c
-  unread_cause (olds.Fault line fault) r = absurd r.whole
-  unread_cause olds.Bytes r = none_counted (Err olds.Bytes) r r.counts
-  unread_cause (olds.Read f) r = (rose_later _ _ _ opens.reads.keeps.reads_rise (subst (λ n. Rose (b.read_faults n) (c.read_faults n)) is_name r.whole), (reads (Err (olds.Read f)) r).writes)
-  unread_cause olds.Memory r = none_counted (Err olds.Memory) r r.counts
+  unread_cause : (e : WholeError) → base.WholeRead slot limit b c (Err e) → CountsRead from (old_end (old_error_of e)) a c
+  unread_cause wholes.Bytes r = none_counted (Err wholes.Bytes) r r.counts
+  unread_cause (wholes.Read f) r = (rose_later _ _ _ opens.reads.keeps.reads_rise (subst (λ n. Rose (b.read_faults n) (c.read_faults n)) is_name r.whole), (reads (Err (wholes.Read f)) r).writes)
+  unread_cause wholes.Memory r = none_counted (Err wholes.Memory) r r.counts
 
-  unread_says : (e : OldError) → WholeRead slot limit b c (Err e) → IsTrue a.told → SaysOld from limit a e
-  unread_says (olds.Fault line fault) r told = absurd r.whole
-  unread_says olds.Bytes r told = (b.left slot, opens.left told, r.whole (told_b told))
-  unread_says (olds.Read f) r told = tt
-  unread_says olds.Memory r told = tt
+  unread_says : (e : WholeError) → base.WholeRead slot limit b c (Err e) → IsTrue a.told → SaysOld from limit a (old_error_of e)
+  unread_says wholes.Bytes r told = (b.left slot, opens.left told, r.whole (told_b told))
+  unread_says (wholes.Read f) r told = tt
+  unread_says wholes.Memory r told = tt
 
-  pub unread : (e : OldError) → WholeRead slot limit b c (Err e) → Migrates from to limit a c (Err (ends.Input e))
-  unread e r = ((reads (Err e) r).files, unread_cause e r, unread_says e r)
+  pub unread : (error : OldError) → WholeRead slot limit b c (Err error) → Migrates from to limit a c (Err (ends.Input error))
+  unread error (e, is, r) = subst (λ (x : OldError). Migrates from to limit a c (Err (ends.Input x))) (sym is) ((reads (Err e) r).files, unread_cause e r, unread_says e r)
 
   module _ (v : Vec ℕ Global) (r : WholeRead slot limit b c (Ok v)) where
     told_c : IsTrue a.told → IsTrue c.told

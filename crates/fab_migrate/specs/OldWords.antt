@@ -1,8 +1,8 @@
 -- A file that is read whole, and words of private contracts alone.
-use Rattle.std.specs.Prelude.{◌≡◌, ℕ, ◌≤◌, ◌<◌, true, List, [], ◌++◌, length, IsTrue, Option, Some, None, Result, Ok, Err, Vec}
+use Rattle.std.specs.Prelude.{◌≡◌, ℕ, true, List, [], ◌++◌, length, Option, Some, None, Result, Ok, Err, Vec}
 use Rattle.std.specs.declared.alloc.Global.{Global}
-use Rattle.fab_base.specs.Ending.{end_by, SparesReads}
-use Rattle.fab_base.specs.Seen.{Seen, Reads, Rose, KeepsOthers}
+use Rattle.fab_base.specs.Seen.{Seen}
+use Rattle.fab_base.specs.Whole as base
 use Rattle.fab_base.specs.declared.whole.WholeError.{WholeError}
 use Rattle.fab_base.specs.declared.whole.WholeError.TheVariants as wholes
 use Rattle.fab_policy.specs.Spelling.{Spells, line_text}
@@ -13,7 +13,6 @@ use Rattle.fab_policy.specs.declared.line.Line.{Line}
 use Rattle.fab_policy.specs.declared.reading.LineError.{LineError}
 use Rattle.fab_policy.specs.declared.reading.LineError.TheVariants as unread
 use Rattle.fab_policy.specs.declared.line.Line.TheVariants.{Tick, Frame}
-use Rattle.fab_migrate.specs.Migrating.{old_end}
 use Rattle.fab_migrate.specs.Old.{IsOld, HasFirstFault, MayCome, clock_after, clocked, new_text}
 use Rattle.fab_migrate.specs.declared.old.OldWhy.TheVariants as why
 use Rattle.fab_migrate.specs.declared.old.OldError.{OldError}
@@ -57,24 +56,13 @@ Rewrites text (Err errors.Bytes) = ⊥
 Rewrites text (Err (errors.Read failed)) = ⊥
 Rewrites text (Err errors.Memory) = Unit {0}
 
--- What is left of a slot was read whole, or it is longer than a limit.
-abbrev pub IsWhole : ℕ → ℕ → Seen → Seen → Result (Vec ℕ Global) OldError → Type 0
-IsWhole s limit old new (Ok v) = IsTrue old.told → (v.items ≡ old.left s) × (length v.items ≤ limit)
-IsWhole s limit old new (Err (errors.Fault line fault)) = ⊥
-IsWhole s limit old new (Err errors.Bytes) = IsTrue old.told → limit < length (old.left s)
-IsWhole s limit old new (Err (errors.Read failed)) = Rose (old.read_faults (old.name s)) (new.read_faults (old.name s))
-IsWhole s limit old new (Err errors.Memory) = Unit {0}
-
--- Of no other slot anything is taken. What is left of this one is the end of what was.
-pub record WholeRead (s limit : ℕ) (old new : Seen) (result : Result (Vec ℕ Global) OldError) : Type 0 where
-  pub reads : Reads (old.name s) old new
-  pub whole : IsWhole s limit old new result
-  pub counts : SparesReads (end_by old_end result) old new
-  pub others : KeepsOthers s old new
-  pub rest : IsTrue old.told → (taken : List ℕ) × (taken ++ new.left s ≡ old.left s)
-
--- what an error of reading a file whole is
+-- why a journal isn't migrated whose file can't be read whole
 abbrev pub old_error_of : WholeError → OldError
 old_error_of wholes.Bytes = errors.Bytes
 old_error_of (wholes.Read failed) = errors.Read failed
 old_error_of wholes.Memory = errors.Memory
+
+-- what is left of a slot was read whole, as fab_base says it, and an error is one of this crate
+abbrev pub WholeRead : ℕ → ℕ → Seen → Seen → Result (Vec ℕ Global) OldError → Type 0
+WholeRead s limit old new (Ok v) = base.WholeRead s limit old new (Ok v)
+WholeRead s limit old new (Err error) = (e : WholeError) × (error ≡ old_error_of e) × base.WholeRead s limit old new (Err e)
