@@ -29,7 +29,7 @@ use Rattle.fabric_tool.specs.Inputs.{HasConfig, HasFault, LIMITS}
 use Rattle.fabric_tool.specs.Opening.{stopped_by, crossed_by}
 use Rattle.fabric_tool.specs.Outcome.{status_of, line_of}
 use Rattle.fabric_tool.specs.Reading.{ConfigRead}
-use Rattle.fabric_tool.specs.Snooping.{HasSnooped, HasSnoopedFront, HasSnoopFront, IsCaptureUnread, IsStopped, snoop_end, SnoopHolds, SnoopEnded, SnoopForms, SnoopSays, crossing_of, snoop_meaning}
+use Rattle.fabric_tool.specs.Snooping.{HasSnooped, HasSnoopedFront, HasSnoopFront, IsCaptureUnread, IsSnoopStopped, snoop_end, SnoopHolds, SnoopEnded, SnoopForms, SnoopSays, crossing_of, snoop_meaning}
 use Rattle.fabric_tool.specs.declared.outcome.Outcome.{Outcome}
 use Rattle.fabric_tool.specs.declared.outcome.Outcome.TheVariants as ends
 use Rattle.fabric_tool.proofs.EndingLemmas.{Left, Said, IsAnswer, less}
@@ -102,7 +102,7 @@ module _ (k : SnoopNames) (d : Seen) where
       let same = one_value d k.config one.settings other.settings one.config other.config in
       ended_once other.settings one.result other.result o p (sym one.crosses ∙ other.crosses) (subst (λ (c : Settings). EndsBy c one.result o) same one.ends_so) other.ends_so
 
-  refusal : (fault : GatherFault) → IsStopped k d fault → Finds k d (stopped_by (fault_from fault))
+  refusal : (fault : GatherFault) → IsSnoopStopped k d fault → Finds k d (stopped_by (fault_from fault))
   refusal fault s = inr (record { settings = s.settings; config = s.config; result = Err fault; crosses = s.stops; ends_so = refl })
 
   said : (p : Outcome) → SnoopSays k d p → Finds k d p
@@ -228,7 +228,7 @@ module _ (k : SnoopNames) (c : Settings) (a b z : Seen) (config : ConfigRead k.c
     apart = λ before later x q is. apart (forwarder_of c) (history (forwarder_of c) [] before) x.port x.caught q;
   }
 
-  stopped_since : (fault : GatherFault) → HasStop k.ins LIMITS b fault → IsTrue a.told → IsStopped k a fault
+  stopped_since : (fault : GatherFault) → HasStop k.ins LIMITS b fault → IsTrue a.told → IsSnoopStopped k a fault
   stopped_since fault h told = record { settings = c; config = config.ok told; stops = sym (ap (crossing LIMITS) (files_since a b same k.ins)) ∙ h }
 
   unread_since : IsFirstUnread k.ins LIMITS b z → IsTrue a.told → IsCaptureUnread k a z
