@@ -140,8 +140,8 @@ module _ (k : EnodeNames) (a b : Seen) where
   ran (Ok last) runs u = (keeps u.touches.files, runs, u.counts)
   ran (Err (faults.Capture port at why)) runs u = (runs.0, runs.1, u.counts)
   ran (Err (faults.Limit kind)) runs u = (runs.0, runs.1, u.counts)
-  ran (Err faults.Read) runs u = (runs.0, inl runs.1, λ told. tt, u.counts.1)
-  ran (Err faults.Write) runs u = (keeps u.touches.files, inl runs.0, runs.1, u.counts.1)
+  ran (Err faults.Read) runs u = (runs.0, λ told. tt, (inl runs.1, u.counts.1))
+  ran (Err faults.Write) runs u = (keeps u.touches.files, runs.1, (inl runs.0, u.counts.1))
   ran (Err faults.Memory) runs u = (runs, λ told. tt, u.counts)
 
 -- the files that words name

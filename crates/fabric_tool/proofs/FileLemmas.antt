@@ -24,11 +24,11 @@ module _ (k : PairNames) (a b : Seen) (others : KeepsBut k.to a b) where
 
   -- the output couldn't be written
   pub output_failed : (failed : Failed) (e : ConvertError) → e ≡ errors.Write failed → Converts k.from k.to LIMITS a b (Err e) → ConvertHolds k a b ends.WriteFault
-  output_failed failed e is c = let w = subst (λ (x : ConvertError). Converts k.from k.to LIMITS a b (Err x)) is c in (keeps, inl w.0, w.1, w.2)
+  output_failed failed e is c = let w = subst (λ (x : ConvertError). Converts k.from k.to LIMITS a b (Err x)) is c in (keeps, w.1, (inl w.0, w.2))
 
   -- the other file of a journal couldn't be written
   pub journal_failed : (failed : Failed) (e : MigrateError) → e ≡ moves.Write failed → Migrates k.from k.to MOST_BYTES a b (Err e) → MigrateHolds k a b ends.WriteFault
-  journal_failed failed e is c = let w = subst (λ (x : MigrateError). Migrates k.from k.to MOST_BYTES a b (Err x)) is c in (keeps, inl w.0, w.1, w.2)
+  journal_failed failed e is c = let w = subst (λ (x : MigrateError). Migrates k.from k.to MOST_BYTES a b (Err x)) is c in (keeps, w.1, (inl w.0, w.2))
 
 -- names that are words
 pub keeps_as : (m n : List ℕ) (a b : Seen) → m ≡ n → KeepsBut m a b → KeepsBut n a b

@@ -145,18 +145,17 @@ module _ (words : List (String Global)) (make : is_make words ≡ true) (b : See
     made_failed is =
         let at = m.cause is in
         let rose : AnyRose b.write_faults d.write_faults (files_of words) = rose_among b.write_faults d.write_faults (files_of words) (b.name (slice_index slots at.0)) (named_among _ (at.0, at.1, refl)) at.2 in
-        (keeps, rose_since a.write_faults b.write_faults d.write_faults opens.touches.writes_rise (files_of words) rose, fronts, no_read)
+        (keeps, fronts, (rose_since a.write_faults b.write_faults d.write_faults opens.touches.writes_rise (files_of words) rose, no_read))
 
 -- an output that couldn't be opened
 pub not_opened : (number : ℕ) (words : List (String Global)) (a b : Seen) (e : Failed) → FilesOpened (files_of words) a b (Err e) → MakeHolds (make_of number words) a b ends.WriteFault
 not_opened number words a b e o = (
   λ m none. o.opens.touches.files m (none_among (files_of words) m none),
-  o.cause,
   λ told q lt. elim (o.opens.each told (file_name (make_of number words) q)) [
     | inl same ↦ inl same
     | inr empty ↦ inr ([], empty, (file_text number q, refl))
   ],
-  o.opens.reads,
+  (o.cause, o.opens.reads),
 )
 
 -- a number and slots as they were handed on

@@ -1,5 +1,5 @@
 -- What follows from how `snoop` ended.
-use Rattle.std.proofs.Common.{◌≡◌, ◌≢◌, ℕ, List, ◌++◌, [], ◌∷◌, length, ◌⊎◌, Ok, Err, IsTrue, refl, sym, ap, ◌∙◌, subst, arith, inl, inr}
+use Rattle.std.proofs.Common.{◌≡◌, ℕ, List, ◌++◌, [], ◌∷◌, length, ◌⊎◌, Ok, Err, IsTrue, refl, sym, ap, ◌∙◌, subst, arith, inl, inr}
 use Rattle.std.specs.Prelude.{Result, String, map}
 use Rattle.std.specs.declared.alloc.Global.{Global}
 use Rattle.fab_base.specs.Ending.{end_by, NoFaults, SparesReads, SparesWrites}
@@ -38,8 +38,8 @@ use Rattle.fabric_tool.proofs.AmongLemmas.{none_among}
 use Rattle.fab_base.proofs.EndingLemmas.{none_then}
 use Rattle.run_files.proofs.NameLemmas.{rose_since}
 use Rattle.fabric_tool.proofs.ConfigLemmas.{one_value, one_fault, no_fault}
-use Rattle.fabric_tool.proofs.HeadLemmas.{not_unread, unread_is}
 use Rattle.fabric_tool.proofs.PartLemmas.{all_fronts}
+use Rattle.fabric_tool.proofs.ReadLemmas.{spares_by}
 
 -- whole captures are fronts
 whole_captures : (k : SnoopNames) (passes drops : ℕ) (old new : Seen) → HasSnooped k passes drops old new → HasSnoopedFront k old new
@@ -174,19 +174,15 @@ snoop_laws k = record {
 -- the configuration can't be taken
 pub not_configured : (k : SnoopNames) (old new : Seen) (x : Outcome) → ConfigRead k.config old new (Err x) → SnoopHolds k old new x
 not_configured k old new x read = elim read.only [
-  | inl fault ↦ subst (SnoopHolds k old new) (sym fault.1) (read.reads.files, λ told. read.fault told fault.0 fault.1, none (ends.Config fault.0) fault.1 (λ is. cc))
+  | inl fault ↦ subst (SnoopHolds k old new) (sym fault.1) (read.reads.files, λ told. read.fault told fault.0 fault.1, (spares_by old new fault.1 read.counts, read.reads.writes))
   | inr other ↦ elim other [
-    | inl failed ↦ subst (SnoopHolds k old new) (sym failed) (read.reads.files, inl (rose failed), λ told. inl (rose failed), read.reads.writes)
-    | inr memory ↦ subst (SnoopHolds k old new) (sym memory) ((λ m other. read.reads.files m), λ told. inl read.reads.files, none ends.Memory memory (λ is. cc))
+    | inl failed ↦ subst (SnoopHolds k old new) (sym failed) (read.reads.files, λ told. inl (rose failed), (inl (rose failed), read.reads.writes))
+    | inr memory ↦ subst (SnoopHolds k old new) (sym memory) ((λ m other. read.reads.files m), λ told. inl read.reads.files, (spares_by old new memory read.counts, read.reads.writes))
   ]
 ]
   where
     rose : x ≡ ends.ReadFault → Rose (old.read_faults k.config) (new.read_faults k.config)
     rose failed = read.cause (ap (λ (o : Outcome). let r : Result Settings Outcome = Err o in r) failed)
-
-    -- no fault was counted where none is told
-    none : (o : Outcome) → x ≡ o → o ≢ ends.ReadFault → NoFaults old new
-    none o is other = (read.counts (λ e. other (sym is ∙ unread_is x e)), read.reads.writes)
 
 -- the names of the ports, as words
 pub bridges_as : {x y : List (String Global)} {c : Settings} {b z : Seen} {r : Result Crossed RunFault} → x ≡ y → Bridges (ins_of x) (outs_of x) LIMITS c b z r → Bridges (ins_of y) (outs_of y) LIMITS c b z r
@@ -205,7 +201,7 @@ module _ (k : SnoopNames) (c : Settings) (a b z : Seen) (config : ConfigRead k.c
   told_b told = subst IsTrue (sym config.reads.keeps.told) told
 
   counted : NoFaults a b
-  counted = (config.counts (not_unread c), config.reads.writes)
+  counted = (config.counts, config.reads.writes)
 
   touched : Touches Nothing (Only k.config) a b
   touched = reads_touches k.config a b config.reads
@@ -266,6 +262,6 @@ module _ (k : SnoopNames) (c : Settings) (a b z : Seen) (config : ConfigRead k.c
       go (Ok done) e reads writes = (others, λ told. bridged_since done (e (told_b told)) told, none reads writes)
       go (Err (faults.Capture port at why)) e reads writes = ((λ m. e.0 m ∙ same m), λ told. stopped_since (gather.Capture port at why) (e.1 (told_b told)) told, none reads writes)
       go (Err (faults.Limit kind)) e reads writes = ((λ m. e.0 m ∙ same m), λ told. stopped_since (gather.Limit kind) (e.1 (told_b told)) told, none reads writes)
-      go (Err faults.Read) e reads writes = ((λ m. e.0 m ∙ same m), inr (rose_since a.read_faults b.read_faults z.read_faults touched.reads_rise k.ins e.1), λ told. inr (unread_since (e.2 (told_b told)) told), λ m. writes m ∙ counted.1 m)
-      go (Err faults.Write) e reads writes = (others, rose_since a.write_faults b.write_faults z.write_faults touched.writes_rise k.outs e.0, λ told. front_since (e.1 (told_b told)) told, λ m. reads m ∙ counted.0 m)
+      go (Err faults.Read) e reads writes = ((λ m. e.0 m ∙ same m), λ told. inr (unread_since (e.2 (told_b told)) told), (inr (rose_since a.read_faults b.read_faults z.read_faults touched.reads_rise k.ins e.1), λ m. writes m ∙ counted.1 m))
+      go (Err faults.Write) e reads writes = (others, λ told. front_since (e.1 (told_b told)) told, (rose_since a.write_faults b.write_faults z.write_faults touched.writes_rise k.outs e.0, λ m. reads m ∙ counted.0 m))
       go (Err faults.Memory) e reads writes = (others, λ told. elim (e (told_b told)) [ inl still ↦ inl (λ m. still m ∙ same m) | inr front ↦ inr (front_since front told) ], none reads writes)

@@ -1,7 +1,7 @@
 -- How a command can end: what is left of the files, and which faults are counted.
 use Rattle.std.specs.Prelude.{IsTrue}
-use Rattle.fab_base.specs.Ending.{NoFaults}
-use Rattle.fab_base.specs.Seen.{Seen, SameFiles, SameReadFaults, SameWriteFaults}
+use Rattle.fab_base.specs.Ending.{End, Said, Read, Write, Counts}
+use Rattle.fab_base.specs.Seen.{Seen, SameFiles}
 use Rattle.fabric_tool.specs.Command.{Command, ReadRose, WriteRose, KeepsOthers}
 
 -- How a command can end. What is said here of bytes needs a depot that tells them.
@@ -23,13 +23,17 @@ pub data Ending : Type 1 where
   -- this too, also where the depot doesn't tell
   Also : (fact : Type 0) → (end : Ending) → Ending
 
--- What holds where a command ends so. No fault of the depot is passed over: where it isn't told, no count of such faults has changed.
+-- what is counted of the faults of the depot: none, or of one kind, of a file of the command
+abbrev pub CountsOwn : Command → End → Seen → Seen → Type 0
+CountsOwn k end old new = Counts (ReadRose k old new) (WriteRose k old new) end old new
+
+-- What holds where a command ends so. No fault of the depot is passed over.
 abbrev pub EndsBy : Command → Seen → Seen → Ending → Type 0
 EndsBy k old new Never = ⊥
-EndsBy k old new (Untouched P) = SameFiles old new × (IsTrue old.told → P) × NoFaults old new
-EndsBy k old new (Leaves P) = KeepsOthers k old new × (IsTrue old.told → P) × NoFaults old new
-EndsBy k old new (Unread P) = SameFiles old new × ReadRose k old new × (IsTrue old.told → P) × SameWriteFaults old new
-EndsBy k old new (LeavesUnread P) = KeepsOthers k old new × ReadRose k old new × (IsTrue old.told → P) × SameWriteFaults old new
-EndsBy k old new (Unwritten P) = KeepsOthers k old new × WriteRose k old new × (IsTrue old.told → P) × SameReadFaults old new
-EndsBy k old new (LeavesUnwritten P) = KeepsOthers k old new × WriteRose k old new × (IsTrue old.told → P)
+EndsBy k old new (Untouched P) = SameFiles old new × (IsTrue old.told → P) × CountsOwn k Said old new
+EndsBy k old new (Leaves P) = KeepsOthers k old new × (IsTrue old.told → P) × CountsOwn k Said old new
+EndsBy k old new (Unread P) = SameFiles old new × (IsTrue old.told → P) × CountsOwn k Read old new
+EndsBy k old new (LeavesUnread P) = KeepsOthers k old new × (IsTrue old.told → P) × CountsOwn k Read old new
+EndsBy k old new (Unwritten P) = KeepsOthers k old new × (IsTrue old.told → P) × CountsOwn k Write old new
+EndsBy k old new (LeavesUnwritten P) = KeepsOthers k old new × (IsTrue old.told → P) × WriteRose k old new
 EndsBy k old new (Also F e) = F × EndsBy k old new e
