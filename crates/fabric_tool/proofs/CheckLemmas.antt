@@ -3,7 +3,7 @@ use Rattle.std.proofs.Common.{◌≡◌, ◌≢◌, ℕ, zero, suc, ◌+◌, ◌
 use Rattle.std.specs.Prelude.{Result, String}
 use Rattle.std.specs.declared.alloc.Global.{Global}
 use Rattle.fab_base.specs.Ending.{NoFaults, Read, SparesReads, end_by}
-use Rattle.fab_base.specs.Seen.{Seen, SameFiles, SameWriteFaults, Touches, Nothing, bytes_of}
+use Rattle.fab_base.specs.Seen.{Seen, SameFiles, SameReadFaults, SameWriteFaults, Touches, Nothing, bytes_of}
 use Rattle.fab_config.specs.Settings.{Settings}
 use Rattle.pcap_file.specs.Capture.{HEAD}
 use Rattle.pcap_file.specs.declared.Budget.{Budget}
@@ -24,6 +24,7 @@ use Rattle.fabric_tool.specs.Command.{are_ports, names_of, ins_of, count_of, inp
 use Rattle.run_files.specs.Names.{Among, AnyRose}
 use Rattle.fabric_tool.specs.Ending.{ReadRose}
 use Rattle.fabric_tool.specs.Inputs.{AreOpened, MOST_BYTES, MOST_FRAMES}
+use Rattle.fabric_tool.specs.Outcome.{outcome_end}
 use Rattle.fabric_tool.specs.Reading.{AreHeads, HeadsRead, HeadsEnd}
 use Rattle.fabric_tool.specs.declared.command.Width.{Width}
 use Rattle.fabric_tool.specs.declared.command.Width.TheVariants as widths
@@ -31,7 +32,7 @@ use Rattle.fabric_tool.specs.declared.outcome.Outcome.{Outcome}
 use Rattle.fabric_tool.specs.declared.outcome.Outcome.TheVariants as ends
 use Rattle.fab_base.proofs.EndingLemmas.{none_then, reads_spared}
 use Rattle.run_files.proofs.NameLemmas.{rose_among, rose_since, length-counted}
-use Rattle.fabric_tool.proofs.HeadLemmas.{heads_opened, heads_since, unread_is}
+use Rattle.fabric_tool.proofs.HeadLemmas.{heads_opened, heads_since}
 use Rattle.fabric_tool.proofs.JournalLemmas.{outs_count}
 use Rattle.fabric_tool.proofs.SinceLemmas.{without_since, no_room_since, unread_since}
 use Rattle.fabric_tool.proofs.SlotLemmas.{heads_on, all_named, slots_among}
@@ -123,13 +124,16 @@ module _ (w : Width) (words : List (String Global)) (run : are_ports w words ≡
 
   -- a head can't be read
   pub heads_ended : length journal ≤ MOST_BYTES → (z : Seen) (frames : ℕ) (left : Budget) (x : Outcome) → HeadsRead (ins_of w words) b z (record { bytes = MOST_BYTES - length journal; frames = frames }) left (Err x) → IsChecked w (names_of w words) a z (Err x)
-  heads_ended room z frames left x read = go x read.ended (λ other. none_then a b z given.counts (read.counts (λ is. other (unread_is x is)), read.writes))
+  heads_ended room z frames left x read = go x read.ended read.counts
     where
       same : SameFiles a z
       same m = read.touches.files m (λ y. y) ∙ files_b m
 
-      go : (x : Outcome) → HeadsEnd (ins_of w words) (MOST_BYTES - length journal) b z x → (x ≢ ends.ReadFault → NoFaults a z) → IsChecked w (names_of w words) a z (Err x)
-      go (ends.Capture port at reason) e none = (
+      none : SameReadFaults b z → NoFaults a z
+      none spares = none_then a b z given.counts (spares, read.writes)
+
+      go : (x : Outcome) → HeadsEnd (ins_of w words) (MOST_BYTES - length journal) b z x → SparesReads (outcome_end x) b z → IsChecked w (names_of w words) a z (Err x)
+      go (ends.Capture port at reason) e spares = (
         same,
         λ told.
             inl (
@@ -141,20 +145,19 @@ module _ (w : Width) (words : List (String Global)) (run : are_ports w words ≡
                 within = (let up_to = e.1 in omega arith);
               },
             ),
-        none (λ is. cc),
+        none spares,
       )
-      go (ends.Limit kind) e none = (
+      go (ends.Limit kind) e spares = (
         same,
         λ told.
             inl (
               e.0,
               record { settings = c; config = given.config told; journal = journal; lines = given.lines told; heads = no_room_since a b files_b (ins_named w words) (e.2 (told_b told)) },
             ),
-        none (λ is. cc),
+        none spares,
       )
-      go ends.ReadFault e none = (
+      go ends.ReadFault e spares = (
         same,
-        rose_of w words a z (rose_front a.read_faults z.read_faults (ins_of w words) (names_of w words).outs (rose_since a.read_faults b.read_faults z.read_faults given.touches.reads_rise (ins_of w words) e.0)),
         λ told.
             inr (inr (inl (record {
               settings = c;
@@ -164,10 +167,13 @@ module _ (w : Width) (words : List (String Global)) (run : are_ports w words ≡
               room = room;
               first = unread_since a b files_b (ins_named w words) z given.touches.reads_rise (e.1 (told_b told));
             }))),
-        λ m. read.writes m ∙ given.counts.1 m,
+        (
+          rose_of w words a z (rose_front a.read_faults z.read_faults (ins_of w words) (names_of w words).outs (rose_since a.read_faults b.read_faults z.read_faults given.touches.reads_rise (ins_of w words) e.0)),
+          λ m. read.writes m ∙ given.counts.1 m,
+        ),
       )
-      go ends.Memory e none = (same, λ told. tt, none (λ is. cc))
-      go x e none = absurd e
+      go ends.Memory e spares = (same, λ told. tt, none spares)
+      go x e spares = absurd e
 
   module _ (m : Seen) (ins : List Input) (had left : Budget) (heads : AreHeads b m (ins_of w words) ins) (touched : Touches Nothing (Among (ins_of w words)) b m)
       (taken : (left.bytes + HEAD * length (ins_of w words) ≡ had.bytes) × (left.frames ≡ had.frames)) (had_bytes : had.bytes ≡ MOST_BYTES - length journal) (had_frames : had.frames ≡ MOST_FRAMES) (room : length journal ≤ MOST_BYTES) where
@@ -201,7 +207,7 @@ module _ (w : Width) (words : List (String Global)) (run : are_ports w words ≡
     pub outs_ended : (z : Seen) → Touches Nothing (Among (names_of w words).outs) m z → AnyRose m.read_faults z.read_faults (names_of w words).outs → SameWriteFaults a z → IsChecked w (names_of w words) a z (Err ends.ReadFault)
     outs_ended z more rose writes =
         let any = rose_back a.read_faults z.read_faults (ins_of w words) (names_of w words).outs (rose_since a.read_faults m.read_faults z.read_faults rise_m (names_of w words).outs rose) in
-        (λ n. more.files n (λ x. x) ∙ files_m n, rose_of w words a z any, unread_behind m z (heads_since a b m files_b told_b (ins_of w words) ins heads) any, writes)
+        (λ n. more.files n (λ x. x) ∙ files_m n, unread_behind m z (heads_since a b m files_b told_b (ins_of w words) ins heads) any, (rose_of w words a z any, writes))
 
     module _ (o : Seen) (slots : List ℕ) (opened : Touches Nothing (Among (names_of w words).outs) m o) (outs : AreOpenInputs m o (names_of w words).outs slots) where
       files_o : SameFiles a o
@@ -274,5 +280,5 @@ module _ (w : Width) (words : List (String Global)) (run : are_ports w words ≡
         check_refused (checks.Output port at) is = (same, λ told. finds _ told (output_on c left (matter_in o ins journal slots) (output_in (names_of w words) a) (same_found told) port at (subst (Says c left (matter_in o ins journal slots) F) is (says told))), spared (Err (checks.Output port at)) is (λ e. cc))
         check_refused (checks.Capture port at why) is = (same, λ told. inr (finds _ told (stop_on c left (matter_in o ins journal slots) (output_in (names_of w words) a) (same_found told) _ (subst (Says c left (matter_in o ins journal slots) F) is (says told)))), spared (Err (checks.Capture port at why)) is (λ e. cc))
         check_refused (checks.Limit kind) is = (same, λ told. inr (finds _ told (stop_on c left (matter_in o ins journal slots) (output_in (names_of w words) a) (same_found told) _ (subst (Says c left (matter_in o ins journal slots) F) is (says told)))), spared (Err (checks.Limit kind)) is (λ e. cc))
-        check_refused checks.Read is = (same, rose_of w words a z (any_rose is), unread_behind o z heads_a (any_rose is), λ m. tells.1 m ∙ none.1 m)
+        check_refused checks.Read is = (same, unread_behind o z heads_a (any_rose is), (rose_of w words a z (any_rose is), λ m. tells.1 m ∙ none.1 m))
         check_refused checks.Memory is = (same, λ told. tt, spared (Err checks.Memory) is (λ e. cc))

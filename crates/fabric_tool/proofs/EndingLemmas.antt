@@ -61,9 +61,9 @@ module _ (m : Meaning) (old new : Seen) where
   left told (Untouched P) h = inl h.0
   left told (Leaves P) h = inr (h.1 told)
   left told (Unread P) h = inl h.0
-  left told (LeavesUnread P) h = inr (h.2 told)
-  left told (Unwritten P) h = inr (h.2 told)
-  left told (LeavesUnwritten P) h = inr (h.2 told)
+  left told (LeavesUnread P) h = inr (h.1 told)
+  left told (Unwritten P) h = inr (h.1 told)
+  left told (LeavesUnwritten P) h = inr (h.1 told)
   left told (Also F e) h = left told e h.1
 
   -- where no fault was counted, none is told
@@ -71,10 +71,10 @@ module _ (m : Meaning) (old new : Seen) where
   said reads writes Never h = h
   said reads writes (Untouched P) h = h.1
   said reads writes (Leaves P) h = h.1
-  said reads writes (Unread P) h = reads h.1
-  said reads writes (LeavesUnread P) h = reads h.1
-  said reads writes (Unwritten P) h = writes h.1
-  said reads writes (LeavesUnwritten P) h = writes h.1
+  said reads writes (Unread P) h = reads h.2.0
+  said reads writes (LeavesUnread P) h = reads h.2.0
+  said reads writes (Unwritten P) h = writes h.2.0
+  said reads writes (LeavesUnwritten P) h = writes h.2
   said reads writes (Also F e) h = (h.0, said reads writes e h.1)
 
   -- what is left of an answer, told as less

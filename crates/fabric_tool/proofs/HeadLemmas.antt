@@ -1,9 +1,11 @@
 -- The heads of the captures, one port after another.
 use Rattle.std.proofs.Common.{◌≡◌, ℕ, ◌+◌, ◌*◌, ◌<◌, ◌≤◌, List, [], ◌∷◌, ◌++◌, length, length-append, Ok, Err, IsTrue, refl, sym, ap, ◌∙◌, subst, arith, inl, inr}
-use Rattle.std.specs.Prelude.{Vec, Result, IsErrOf}
+use Rattle.std.specs.Prelude.{Vec, Result}
 use Rattle.std.specs.declared.alloc.Global.{Global}
+use Rattle.fab_base.specs.Ending.{SparesReads}
 use Rattle.fab_base.specs.Seen.{Seen, Reads, Rose, OpensIn, Touches, Nothing, Only, SameReadFaults, SameWriteFaults}
 use Rattle.fab_base.specs.declared.values.Failed.{Failed}
+use Rattle.fab_base.proofs.EndingLemmas.{spares_reads_then}
 use Rattle.fab_base.proofs.SeenLemmas.{reads_trans, rose_later, told_stays, touches_refl, touches_trans, touches_wider, reads_touches}
 use Rattle.pcap_file.specs.Capture.{HEAD}
 use Rattle.pcap_file.specs.Reading.{Reading, OpensReader, to_come}
@@ -16,22 +18,16 @@ use Rattle.fab_gather.specs.First.{opened_in}
 use Rattle.fab_gather.specs.declared.shelf.Input.{Input}
 use Rattle.run_files.specs.Names.{Among}
 use Rattle.fabric_tool.specs.Inputs.{AreOpened}
-use Rattle.fabric_tool.specs.Reading.{TellsReads, IsHead, HeadRead, HeadEnds, AreHeads, HeadsRead, HeadsEnd, unopened_by}
+use Rattle.fabric_tool.specs.Outcome.{outcome_end}
+use Rattle.fabric_tool.specs.Reading.{IsHead, HeadRead, HeadEnds, AreHeads, HeadsRead, HeadsEnd, unopened_by}
 use Rattle.fabric_tool.specs.declared.outcome.Outcome.{Outcome}
 use Rattle.fabric_tool.specs.declared.outcome.Outcome.TheVariants as ends
 use Rattle.run_files.proofs.NameLemmas.{among_front, among_back, among_split, rose_among, rose_since}
 
--- what was read isn't a fault, and a fault is the same whatever else was to be read
-pub not_unread : {T : Type 0} (v : T) → IsErrOf {T = T} {E = Outcome} (Ok v) ends.ReadFault → ⊥
-not_unread {T} v is = absurd (cc)
-
-pub unread_is : {T : Type 0} (x : Outcome) → IsErrOf {T = T} (Err x) ends.ReadFault → x ≡ ends.ReadFault
-unread_is {T} x is = cc
-
 -- ---- one capture
 
 pub head_unopened : (port : ℕ) (name : List ℕ) (a b : Seen) (had : Budget) (e : Failed) → OpensIn {E = Failed} name a b (Err e) → HeadRead port name a b had had (Err ends.ReadFault)
-head_unopened port name a b had e o = record { reads = o.reads; head = tt; taken = tt; ended = o.cause; counts = λ no. absurd (no refl) }
+head_unopened port name a b had e o = record { reads = o.reads; head = tt; taken = tt; ended = o.cause; counts = tt }
 
 module _ (port : ℕ) (name : List ℕ) (s : ℕ) (a b c : Seen) (had left : Budget) (o : OpensIn {E = Failed} name a b (Ok s)) where
   told_b : IsTrue a.told → IsTrue b.told
@@ -58,7 +54,7 @@ module _ (port : ℕ) (name : List ℕ) (s : ℕ) (a b c : Seen) (had left : Bud
         };
         taken = r.taken;
         ended = tt;
-        counts = λ no m. r.counts m ∙ o.counts m;
+        counts = λ m. r.counts m ∙ o.counts m;
       }
 
   -- a fault of the head isn't told where the budget has no room for it
@@ -73,10 +69,10 @@ module _ (port : ℕ) (name : List ℕ) (s : ℕ) (a b c : Seen) (had left : Bud
   failed_as (opens.Read f) r = rose_later _ _ _ o.reads.keeps.reads_rise (subst (λ n. Rose (b.read_faults n) (c.read_faults n)) o.opened.2 r.refused)
   failed_as opens.Bytes r = (refl, (r.bytes).0 refl)
 
-  told_as : (e : CapOpen) → OpensReader s b c had left (Err e) → TellsReads {T = Input} a c (Err (unopened_by e port))
-  told_as (opens.Head fault) r = λ no m. r.counts m ∙ o.counts m
-  told_as (opens.Read f) r = λ no. absurd (no refl)
-  told_as opens.Bytes r = λ no m. r.counts m ∙ o.counts m
+  spares_as : (e : CapOpen) → OpensReader s b c had left (Err e) → SparesReads (outcome_end (unopened_by e port)) a c
+  spares_as (opens.Head fault) r = λ m. r.counts m ∙ o.counts m
+  spares_as (opens.Read f) r = tt
+  spares_as opens.Bytes r = λ m. r.counts m ∙ o.counts m
 
   pub head_failed : (e : CapOpen) (x : Outcome) → x ≡ unopened_by e port → OpensReader s b c had left (Err e) → HeadRead port name a c had left (Err x)
   head_failed e x is r = record {
@@ -84,7 +80,7 @@ module _ (port : ℕ) (name : List ℕ) (s : ℕ) (a b c : Seen) (had left : Bud
     head = tt;
     taken = tt;
     ended = subst (HeadEnds port name had.bytes a c) (sym is) (failed_as e r);
-    counts = subst (λ (y : Outcome). TellsReads {T = Input} a c (Err y)) (sym is) (told_as e r);
+    counts = subst (λ (y : Outcome). SparesReads (outcome_end y) a c) (sym is) (spares_as e r);
   }
 
 -- ---- all captures
@@ -177,7 +173,7 @@ module _ (names : List (List ℕ)) (a b : Seen) (ins : List Input) (had left : B
           (head_since a b d same_files told_now name i read.head);
       bytes = let taken = read.taken.0 in let was = h.bytes in omega (arith, length-append names (name ∷ []));
       frames = read.taken.1 ∙ h.frames;
-      reads = λ m. read.counts (not_unread i) m ∙ h.reads m;
+      reads = λ m. read.counts m ∙ h.reads m;
       writes = λ m. read.reads.writes m ∙ h.writes m;
     }
 
@@ -235,7 +231,7 @@ module _ (names : List (List ℕ)) (a b : Seen) (ins : List Input) (had left : B
         heads = tt;
         taken = tt;
         ended = ended_as number x read.ended;
-        counts = λ no m. read.counts (λ is. no (ap (λ (y : Outcome). let r : Result (Vec Input Global) Outcome = Err y in r) (unread_is x is))) m ∙ h.reads m;
+        counts = spares_reads_then (outcome_end x) a b d h.reads read.counts;
         writes = λ m. read.reads.writes m ∙ h.writes m;
       }
 
@@ -245,7 +241,7 @@ module _ (names : List (List ℕ)) (a b : Seen) (ins : List Input) (had left : B
         heads = tt;
         taken = tt;
         ended = tt;
-        counts = λ no m. read.counts (not_unread i) m ∙ h.reads m;
+        counts = λ m. read.counts m ∙ h.reads m;
         writes = λ m. read.reads.writes m ∙ h.writes m;
       }
 

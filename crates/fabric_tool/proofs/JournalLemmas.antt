@@ -2,7 +2,7 @@
 use Rattle.std.proofs.Common.{◌≡◌, ℕ, ◌+◌, ◌-◌, ◌<◌, ◌≤◌, List, [], ◌∷◌, ◌++◌, length, true, Some, Ok, Err, IsTrue, refl, sym, ap, ◌∙◌, subst, arith, inl, inr}
 use Rattle.std.specs.Prelude.{Result, Vec, String, map}
 use Rattle.std.specs.declared.alloc.Global.{Global}
-use Rattle.fab_base.specs.Ending.{NoFaults}
+use Rattle.fab_base.specs.Ending.{NoFaults, SparesReads}
 use Rattle.fab_base.specs.Seen.{Seen, Reads, Rose, OpensIn, Touches, Nothing, Only, SameReadFaults, SameWriteFaults}
 use Rattle.fab_base.specs.declared.values.Failed.{Failed}
 use Rattle.fab_base.specs.Places.{name_at}
@@ -16,20 +16,20 @@ use Rattle.fabric_tool.specs.Checking.{JournalRead, JournalEnds, AreOpenInputs, 
 use Rattle.fabric_tool.specs.Command.{RunNames, are_pairs, run_of, show_of, names_of, port_count, output_at}
 use Rattle.run_files.specs.Names.{Among, AnyRose}
 use Rattle.fabric_tool.specs.Inputs.{MOST_BYTES}
-use Rattle.fabric_tool.specs.Reading.{TellsReads, ConfigRead}
+use Rattle.fabric_tool.specs.Outcome.{outcome_end}
+use Rattle.fabric_tool.specs.Reading.{ConfigRead}
 use Rattle.fabric_tool.specs.declared.command.Width.{Width}
 use Rattle.fabric_tool.specs.declared.command.Width.TheVariants as widths
 use Rattle.fabric_tool.specs.declared.outcome.Outcome.{Outcome}
 use Rattle.fabric_tool.specs.declared.outcome.Outcome.TheVariants as ends
-use Rattle.fab_base.proofs.EndingLemmas.{none_yet, none_then}
+use Rattle.fab_base.proofs.EndingLemmas.{none_yet, none_then, spares_reads_then}
 use Rattle.run_files.proofs.NameLemmas.{among_front, among_back, among_split, rose_among, rose_since, split_names, push_name, length-counted}
-use Rattle.fabric_tool.proofs.HeadLemmas.{not_unread, unread_is}
 use Rattle.fabric_tool.proofs.NameLemmas.{new_output}
 
 -- ---- the journal
 
 pub journal_unopened : (name : List ℕ) (limit : ℕ) (a b : Seen) (e : Failed) → OpensIn {E = Failed} name a b (Err e) → JournalRead name limit a b (Err ends.ReadFault)
-journal_unopened name limit a b e o = record { reads = o.reads; ok = λ told. tt; within = tt; ended = o.cause; counts = λ no. absurd (no refl) }
+journal_unopened name limit a b e o = record { reads = o.reads; ok = λ told. tt; within = tt; ended = o.cause; counts = tt }
 
 module _ (name : List ℕ) (limit s : ℕ) (a b c : Seen) (o : OpensIn {E = Failed} name a b (Ok s)) where
   told_b : IsTrue a.told → IsTrue b.told
@@ -44,21 +44,21 @@ module _ (name : List ℕ) (limit s : ℕ) (a b c : Seen) (o : OpensIn {E = Fail
     ok = λ told. o.left told ∙ ap (λ (l : List ℕ). Some l) (sym (w.whole (told_b told)).0);
     within = within;
     ended = tt;
-    counts = λ no m. w.counts m ∙ o.counts m;
+    counts = λ m. w.counts m ∙ o.counts m;
   }
 
   pub journal_unread : (e : WholeError) (x : Outcome) → x ≡ unread_by e → WholeRead s limit b c (Err e) → JournalRead name limit a c (Err x)
-  journal_unread e x is w = record { reads = all_reads w.reads; ok = λ told. tt; within = tt; ended = subst (JournalEnds name limit a c) (sym is) (go e w.whole); counts = subst (λ (y : Outcome). TellsReads {T = Vec ℕ Global} a c (Err y)) (sym is) (told_as e w) }
+  journal_unread e x is w = record { reads = all_reads w.reads; ok = λ told. tt; within = tt; ended = subst (JournalEnds name limit a c) (sym is) (go e w.whole); counts = subst (λ (y : Outcome). SparesReads (outcome_end y) a c) (sym is) (spares_as e w) }
     where
       go : (e : WholeError) → IsWhole s limit b c (Err e) → JournalEnds name limit a c (unread_by e)
       go errors.Bytes whole = (refl, λ told. (b.left s, o.left told, whole (told_b told)))
       go (errors.Read f) whole = rose_later _ _ _ o.reads.keeps.reads_rise (subst (λ n. Rose (b.read_faults n) (c.read_faults n)) o.opened.2 whole)
       go errors.Memory whole = tt
 
-      told_as : (e : WholeError) → WholeRead s limit b c (Err e) → TellsReads {T = Vec ℕ Global} a c (Err (unread_by e))
-      told_as errors.Bytes w = λ no m. w.counts m ∙ o.counts m
-      told_as (errors.Read f) w = λ no. absurd (no refl)
-      told_as errors.Memory w = λ no m. w.counts m ∙ o.counts m
+      spares_as : (e : WholeError) → WholeRead s limit b c (Err e) → SparesReads (outcome_end (unread_by e)) a c
+      spares_as errors.Bytes w = λ m. w.counts m ∙ o.counts m
+      spares_as (errors.Read f) w = tt
+      spares_as errors.Memory w = λ m. w.counts m ∙ o.counts m
 
 -- ---- the outputs
 
@@ -175,7 +175,7 @@ given_no_config k a b x r = record {
       | inr memory ↦ subst (GivenEnds k a b) (sym memory) tt
     ]
   ];
-  counts = λ no. r.counts (λ is. no (ap (λ (y : Outcome). let e : Result (Settings × Vec ℕ Global) Outcome = Err y in e) (unread_is x is)));
+  counts = r.counts;
   writes = r.reads.writes;
 }
 
@@ -190,7 +190,7 @@ module _ (k : RunNames) (a b d : Seen) (c : Settings) (config : ConfigRead k.con
 
   -- no fault of reading was counted before
   both : SameReadFaults b d → SameReadFaults a d
-  both same m = same m ∙ config.counts (not_unread c) m
+  both same m = same m ∙ config.counts m
 
   writes_on : Reads k.journal b d → SameWriteFaults a d
   writes_on reads m = reads.writes m ∙ config.reads.writes m
@@ -202,11 +202,11 @@ module _ (k : RunNames) (a b d : Seen) (c : Settings) (config : ConfigRead k.con
       touches = touch_both r.reads;
       config = λ told. config.ok told;
       lines = λ told. sym (config.reads.files k.journal) ∙ r.ok (told_on told);
-      counts = (both (r.counts (not_unread v)), writes_on r.reads);
+      counts = (both r.counts, writes_on r.reads);
     };
     within = r.within;
     ended = tt;
-    counts = λ no. both (r.counts (not_unread v));
+    counts = both r.counts;
     writes = writes_on r.reads;
   }
 
@@ -216,7 +216,7 @@ module _ (k : RunNames) (a b d : Seen) (c : Settings) (config : ConfigRead k.con
     given = tt;
     within = tt;
     ended = go x r.ended;
-    counts = λ no. both (r.counts (λ is. no (ap (λ (y : Outcome). let e : Result (Settings × Vec ℕ Global) Outcome = Err y in e) (unread_is x is))));
+    counts = spares_reads_then (outcome_end x) a b d config.counts r.counts;
     writes = writes_on r.reads;
   }
     where

@@ -38,7 +38,7 @@ use Rattle.run_files.specs.Opening.{AreEmptyOutputs}
 use Rattle.fab_base.proofs.EndingLemmas.{none_then}
 use Rattle.run_files.proofs.NameLemmas.{rose_among, rose_since, length-counted, counted_among}
 use Rattle.run_files.proofs.OpenLemmas.{there, slots_count, are_outputs, up_to_rose}
-use Rattle.fabric_tool.specs.Command.{LiveWords, Live, AllKnown, KeepsOthers, is_live, live_of, live_count, came_at, sent_at, by_port}
+use Rattle.fabric_tool.specs.Command.{LiveWords, Live, AllKnown, is_live, live_of, live_count, came_at, sent_at, by_port}
 use Rattle.fabric_tool.specs.Inputs.{HasConfig, AreCaptures, LIMITS}
 use Rattle.fabric_tool.specs.Left.{AreUnwritten, LegalIsSafe}
 use Rattle.fabric_tool.specs.Living.{came_on, HoldsSession, HoldsSessionFronts, HasSession, HasLived, HasHalt, HasHalted, HasLiveFront, IsBegun, IsFaulty, IsNoPort, IsPast, IsLiveRefused}
@@ -50,9 +50,9 @@ use Rattle.fabric_tool.specs.declared.live.Recorded.{Recorded}
 use Rattle.fabric_tool.specs.declared.outcome.Outcome.{Outcome}
 use Rattle.fabric_tool.specs.declared.outcome.Outcome.TheVariants as ends
 use Rattle.fabric_tool.proofs.AmongLemmas.{none_among}
-use Rattle.fabric_tool.proofs.HeadLemmas.{not_unread}
 use Rattle.fabric_tool.proofs.LiveWordLemmas.{both, outputs_split, among_came, among_sent, live_names, came_once, sent_once, came_sent, came_first, sent_first, stream_apart}
 use Rattle.fabric_tool.proofs.PartLemmas.{empty_fronts, unwritten}
+use Rattle.fabric_tool.proofs.ReadLemmas.{spares_by}
 use Rattle.fabric_tool.proofs.RanLemmas.{AreNamed, named_still, named_at, in_order_as, held, held_fronts}
 
 -- ---- what came is read back
@@ -135,12 +135,12 @@ others_same k old new same m none = same m
 -- the configuration can't be taken
 config_ended : (k : LiveWords) (old new : Seen) (x : Outcome) → ConfigRead k.config old new (Err x) → Holds (Live k) old new x
 config_ended k old new x read = elim read.only [
-  | inl fault ↦ subst (Holds (Live k) old new) (sym fault.1) (read.reads.files, λ told. read.fault told fault.0 fault.1, (read.counts (λ is. let e = fault.1 in absurd (cc)), read.reads.writes))
+  | inl fault ↦ subst (Holds (Live k) old new) (sym fault.1) (read.reads.files, λ told. read.fault told fault.0 fault.1, (spares_by old new fault.1 read.counts, read.reads.writes))
   | inr other ↦ elim other [
     | inl failed ↦
         let rose = read.cause (ap (λ (o : Outcome). let r : Result Settings Outcome = Err o in r) failed) in
-        subst (Holds (Live k) old new) (sym failed) (others_same k old new read.reads.files, inl rose, λ told. inl (read.reads.files, rose), read.reads.writes)
-    | inr memory ↦ subst (Holds (Live k) old new) (sym memory) (others_same k old new read.reads.files, λ told. inl read.reads.files, (read.counts (λ is. absurd (cc)), read.reads.writes))
+        subst (Holds (Live k) old new) (sym failed) (others_same k old new read.reads.files, λ told. inl (read.reads.files, rose), (inl rose, read.reads.writes))
+    | inr memory ↦ subst (Holds (Live k) old new) (sym memory) (others_same k old new read.reads.files, λ told. inl read.reads.files, (spares_by old new memory read.counts, read.reads.writes))
   ]
 ]
 
@@ -149,7 +149,7 @@ live_no_config k {old} {new} {x} read = record { reads = read.reads; fabric = tt
 
 module _ (k : LiveWords) {c : Settings} {old b : Seen} (config : ConfigRead k.config old b (Ok c)) where
   quiet : NoFaults old b
-  quiet = (config.counts (not_unread c), config.reads.writes)
+  quiet = (config.counts, config.reads.writes)
 
   pub live_no_fabric : IsLivePrepared k old b (Err ends.Memory)
   live_no_fabric = record { reads = config.reads; fabric = tt; config = λ told. tt; ended = (others_same k old b config.reads.files, λ told. inl config.reads.files, quiet); counts = tt }
@@ -326,7 +326,7 @@ module _ (words : List (String Global)) (live : is_live words ≡ true) (safe : 
   stream_closed e o =
       let same : SameFiles old s = λ name. o.reads.files name ∙ reads.files name in
       let rose : Rose (old.read_faults kk.stream) (s.read_faults kk.stream) = rose_later (old.read_faults kk.stream) (m.read_faults kk.stream) (s.read_faults kk.stream) ((reads_touches kk.config old m reads).reads_rise kk.stream) o.cause in
-      (others_same kk old s same, inr (inl rose), λ told. inr (inl (same, rose, (c, config told))), λ name. o.reads.writes name ∙ reads.writes name)
+      (others_same kk old s same, λ told. inr (inl (same, rose, (c, config told))), (inr (inl rose), λ name. o.reads.writes name ∙ reads.writes name))
 
   module _ (stream : ℕ) (o : OpensIn {E = Failed} kk.stream m s (Ok stream)) where
     quiet_s : NoFaults old s
@@ -361,14 +361,16 @@ module _ (words : List (String Global)) (live : is_live words ≡ true) (safe : 
     not_recorded r =
         let all = kk.journal ∷ by_port kk.ins kk.outs in (
           λ name none. r.opens.touches.files name (none_among all name none) ∙ same_s name,
-          rose_since old.write_faults s.write_faults a.write_faults (λ name. le_trans ((reads_touches kk.config old m reads).writes_rise name) ((reads_touches kk.stream m s o.reads).writes_rise name)) all (up_to_rose all s a r.cause),
           λ told. record {
             halt = begun (s.left stream) told (stream_file told);
             journal = [];
             run = nothing_lived nothing c (length kk.outs);
             files = empty_session (λ name. elim (r.opens.each (told_s told) name) [ inl same ↦ inl (same ∙ same_s name) | inr empty ↦ inr empty ]) (unwritten all old s a same_s (told_s told) r.cause);
           },
-          λ name. r.opens.reads name ∙ quiet_s.0 name,
+          (
+            rose_since old.write_faults s.write_faults a.write_faults (λ name. le_trans ((reads_touches kk.config old m reads).writes_rise name) ((reads_touches kk.stream m s o.reads).writes_rise name)) all (up_to_rose all s a r.cause),
+            λ name. r.opens.reads name ∙ quiet_s.0 name,
+          ),
         )
 
     -- the outputs are open
@@ -490,18 +492,16 @@ module _ (words : List (String Global)) (live : is_live words ≡ true) (safe : 
           let named : Rose (a.read_faults kk.stream) (b.read_faults kk.stream) = subst (λ name. Rose (a.read_faults name) (b.read_faults name)) stream_open.name_ rose in
           let since = rose_later (old.read_faults kk.stream) (a.read_faults kk.stream) (b.read_faults kk.stream) (rise_reads kk.stream) named in (
             others b x.touches,
-            inr (inl since),
             λ told. let e = x.ends (told_a told) in inr (inr (since, halted b x.touches IsBegun told e.0 e.1 e.2)),
-            λ name. x.counts.1 name ∙ quiet_a.1 name,
+            (inr (inl since), λ name. x.counts.1 name ∙ quiet_a.1 name),
           )
       live_ended b (Err fault.Write) x =
           let rose = x.counts.0 in
           let all = kk.journal ∷ by_port kk.ins kk.outs in
           let among = written_among words live a files.journal files.ins.items files.outs.items r.slots r.width.0 r.width.1 rose.0 rose.1 in (
             others b x.touches,
-            rose_since old.write_faults a.write_faults b.write_faults rise_writes all (rose_among a.write_faults b.write_faults all rose.0 among rose.2),
             λ told. let e = x.ends (told_a told) in front b x.touches told e.0 e.1 e.2,
-            λ name. x.counts.1 name ∙ quiet_a.0 name,
+            (rose_since old.write_faults a.write_faults b.write_faults rise_writes all (rose_among a.write_faults b.write_faults all rose.0 among rose.2), λ name. x.counts.1 name ∙ quiet_a.0 name),
           )
       live_ended b (Err fault.Memory) x =
           (others b x.touches, λ told. let e = x.ends (told_a told) in refused b x.touches told e.0 e.1 e.2, none_then old a b quiet_a x.counts)

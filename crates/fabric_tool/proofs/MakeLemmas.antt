@@ -26,7 +26,7 @@ use Rattle.run_files.proofs.NameLemmas.{among_counted, counted_among, rose_among
 use Rattle.fabric_tool.proofs.GivenLemmas.{IsOut, output_named, outputs_count}
 use Rattle.fabric_tool.proofs.NameLemmas.{and_true, words_differ, name_counted}
 use Rattle.fabric_tool.proofs.TouchLemmas.{own_then, own_wider, own_written}
-use Rattle.run_files.proofs.OpenLemmas.{OpenedSoFar, opened_more, opened_failed, up_to_rose}
+use Rattle.run_files.proofs.OpenLemmas.{OpenedSoFar, opened_more, opened_failed}
 
 -- ---- the words
 
@@ -145,18 +145,17 @@ module _ (words : List (String Global)) (make : is_make words ≡ true) (b : See
         let n = subst (λ x. Makes number slots b d x) is m in
         let one = n.uses.counts.0 in
         let rose : AnyRose b.write_faults d.write_faults (files_of words) = rose_among b.write_faults d.write_faults (files_of words) one.0 (named_among one.0 one.1) one.2 in
-        (keeps, rose_since a.write_faults b.write_faults d.write_faults opens.touches.writes_rise (files_of words) rose, fronts, λ x. n.uses.counts.1 x ∙ opens.reads x)
+        (keeps, fronts, (rose_since a.write_faults b.write_faults d.write_faults opens.touches.writes_rise (files_of words) rose, λ x. n.uses.counts.1 x ∙ opens.reads x))
 
 -- an output that couldn't be opened
 pub not_opened : (number : ℕ) (words : List (String Global)) (a b : Seen) (e : Failed) → FilesOpened (files_of words) a b (Err e) → Holds (Make (make_of number words)) a b ends.WriteFault
 not_opened number words a b e o = (
   λ m none. o.opens.touches.files m (none_among (files_of words) m none),
-  up_to_rose (files_of words) a b o.cause,
   λ told q lt. elim (o.opens.each told (file_name (make_of number words) q)) [
     | inl same ↦ inl same
     | inr empty ↦ inr ([], empty, (file_text number q, refl))
   ],
-  o.opens.reads,
+  (o.cause, o.opens.reads),
 )
 
 -- a number and slots as they were handed on

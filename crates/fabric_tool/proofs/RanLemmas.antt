@@ -1,9 +1,9 @@
 -- How `run` ends.
 use Rattle.std.proofs.Common.{◌≡◌, ℕ, zero, suc, ◌+◌, ◌-◌, ◌*◌, ◌<◌, ◌≤◌, List, [], ◌∷◌, ◌⊎◌, length, true, Some, Ok, Err, IsTrue, refl, sym, ap, ◌∙◌, subst, arith, inl, inr}
-use Rattle.std.specs.Prelude.{Result, String, Vec, IsErrOf, map, get_or}
+use Rattle.std.specs.Prelude.{Result, String, Vec, map, get_or}
 use Rattle.std.specs.declared.alloc.Global.{Global}
-use Rattle.fab_base.specs.Ending.{NoFaults}
-use Rattle.fab_base.specs.Seen.{Seen, SameFiles, Touches, Nothing, Only, SameWriteFaults}
+use Rattle.fab_base.specs.Ending.{NoFaults, SparesReads}
+use Rattle.fab_base.specs.Seen.{Seen, SameFiles, Touches, Nothing, Only, SameReadFaults, SameWriteFaults}
 use Rattle.fab_base.proofs.SeenLemmas.{touches_trans, touches_wider, reads_touches}
 use Rattle.fab_config.specs.Settings.{Settings, is_in_range}
 use Rattle.pcap_file.specs.Capture.{HEAD}
@@ -36,7 +36,8 @@ use Rattle.fabric_tool.specs.Left.{HoldsAll, HoldsFronts, AreOldOrFront, HasRun,
 use Rattle.fabric_tool.specs.Opening.{ran_by}
 use Rattle.run_files.specs.Opening.{AreEmptyOutputs, OpenedUpTo, Opens}
 use Rattle.fabric_tool.specs.Preparing.{IsNew, IsPrepared}
-use Rattle.fabric_tool.specs.Reading.{TellsReads, AreHeads, ConfigRead, HeadsRead, HeadsEnd}
+use Rattle.fabric_tool.specs.Outcome.{outcome_end}
+use Rattle.fabric_tool.specs.Reading.{AreHeads, ConfigRead, HeadsRead, HeadsEnd}
 use Rattle.fabric_tool.specs.declared.outcome.Outcome.{Outcome}
 use Rattle.fabric_tool.specs.declared.outcome.Outcome.TheVariants as ends
 use Rattle.fabric_tool.proofs.AmongLemmas.{none_among}
@@ -44,9 +45,10 @@ use Rattle.run_files.proofs.NameLemmas.{rose_among, rose_since, length-counted}
 use Rattle.run_files.proofs.OpenLemmas.{up_to_rose}
 use Rattle.fabric_tool.proofs.CaptureLemmas.{whole_captures}
 use Rattle.fabric_tool.proofs.GivenLemmas.{outputs_count, written_among, read_among, slots_length, ins_count, outs_count, given}
-use Rattle.fabric_tool.proofs.HeadLemmas.{not_unread, heads_still, heads_since, heads_count, heads_opened}
+use Rattle.fabric_tool.proofs.HeadLemmas.{heads_still, heads_since, heads_count, heads_opened}
 use Rattle.fabric_tool.proofs.NameLemmas.{pairs, inputs_apart}
 use Rattle.fabric_tool.proofs.PartLemmas.{empty_part, unwritten}
+use Rattle.fabric_tool.proofs.ReadLemmas.{spares_by}
 use Rattle.fabric_tool.proofs.SinceLemmas.{without_since, unread_since}
 
 le_trans : {x y z : ℕ} → x ≤ y → y ≤ z → x ≤ z
@@ -66,12 +68,12 @@ config_touched k old new read = touches_wider Nothing (Only k.config) Nothing (A
 
 config_ended : (k : RunNames) (old new : Seen) (x : Outcome) → ConfigRead k.config old new (Err x) → Holds (Run k) old new x
 config_ended k old new x read = elim read.only [
-  | inl fault ↦ subst (Holds (Run k) old new) (sym fault.1) (read.reads.files, λ told. read.fault told fault.0 fault.1, (read.counts (λ is. let e = fault.1 in absurd (cc)), read.reads.writes))
+  | inl fault ↦ subst (Holds (Run k) old new) (sym fault.1) (read.reads.files, λ told. read.fault told fault.0 fault.1, (spares_by old new fault.1 read.counts, read.reads.writes))
   | inr other ↦ elim other [
     | inl failed ↦
         let rose = read.cause (ap (λ (o : Outcome). let r : Result Settings Outcome = Err o in r) failed) in
-        subst (Holds (Run k) old new) (sym failed) (others_same k old new read.reads.files, inl rose, λ told. inl (read.reads.files, rose), read.reads.writes)
-    | inr memory ↦ subst (Holds (Run k) old new) (sym memory) (others_same k old new read.reads.files, λ told. inl read.reads.files, (read.counts (λ is. absurd (cc)), read.reads.writes))
+        subst (Holds (Run k) old new) (sym failed) (others_same k old new read.reads.files, λ told. inl (read.reads.files, rose), (inl rose, read.reads.writes))
+    | inr memory ↦ subst (Holds (Run k) old new) (sym memory) (others_same k old new read.reads.files, λ told. inl read.reads.files, (spares_by old new memory read.counts, read.reads.writes))
   ]
 ]
 
@@ -104,24 +106,23 @@ module _ (k : RunNames) {c : Settings} {old b : Seen} (config : ConfigRead k.con
         writes : SameWriteFaults old new
         writes m = read.writes m ∙ config.reads.writes m
 
-        none : {x : Outcome} → TellsReads {T = Vec Input Global} b new (Err x) → (IsErrOf {T = Vec Input Global} (Err x) ends.ReadFault → ⊥) → NoFaults old new
-        none tells silent = (λ m. tells silent m ∙ config.counts (not_unread c) m, writes)
+        none : SameReadFaults b new → NoFaults old new
+        none spares = (λ m. spares m ∙ config.counts m, writes)
 
-        go : (x : Outcome) → HeadsEnd k.ins MOST_BYTES b new x → TellsReads {T = Vec Input Global} b new (Err x) → Holds (Run k) old new x
-        go (ends.Capture port at reason) e tells = (
+        go : (x : Outcome) → HeadsEnd k.ins MOST_BYTES b new x → SparesReads (outcome_end x) b new → Holds (Run k) old new x
+        go (ends.Capture port at reason) e spares = (
           λ m other. same m,
           λ told. inl (same, e.0, record { settings = c; config = config.ok told; first = without_since old b config.reads.files refl (e.2 (told_b told)) }),
-          none tells (λ is. absurd (cc)),
+          none spares,
         )
-        go (ends.Limit kind) e tells = let few = e.1 in absurd (omega arith)
-        go ends.ReadFault e tells = (
+        go (ends.Limit kind) e spares = let few = e.1 in absurd (omega arith)
+        go ends.ReadFault e spares = (
           λ m other. same m,
-          inr (rose_since old.read_faults b.read_faults new.read_faults touched.reads_rise k.ins e.0),
           λ told. inr (inl (same, record { settings = c; config = config.ok told; first = unread_since old b config.reads.files refl new touched.reads_rise (e.1 (told_b told)) })),
-          writes,
+          (inr (rose_since old.read_faults b.read_faults new.read_faults touched.reads_rise k.ins e.0), writes),
         )
-        go ends.Memory e tells = (λ m other. same m, λ told. inl same, none tells (λ is. absurd (cc)))
-        go x e tells = absurd e
+        go ends.Memory e spares = (λ m other. same m, λ told. inl same, none spares)
+        go x e spares = absurd e
 
     -- what reading the configuration and the heads changes
     inputs_touched : Touches Nothing (Among k.ins) b new → Touches Nothing (Among (k.config ∷ k.ins)) old new
@@ -136,7 +137,7 @@ module _ (k : RunNames) {c : Settings} {old b : Seen} (config : ConfigRead k.con
     -- all heads are read, and no fault was counted up to there
     module _ {left : Budget} {ins : Vec Input Global} (read : HeadsRead k.ins b new LIMITS left (Ok ins)) where
       none_yet : NoFaults old new
-      none_yet = none_then old b new (config.counts (not_unread c), config.reads.writes) (read.counts (not_unread ins), read.writes)
+      none_yet = none_then old b new (config.counts, config.reads.writes) (read.counts, read.writes)
 
       -- memory is refused
       pub no_fabric : IsPrepared k old new (Err ends.Memory)
@@ -178,11 +179,11 @@ module _ (k : RunNames) (c : Settings) (old m a : Seen) (ins : List Input)
   pub not_opened : NothingIsRun → OpenedUpTo (k.journal ∷ k.outs) m a → Holds (Run k) old a ends.WriteFault
   not_opened nothing up_to = (
     others_opened,
-    rose_since old.write_faults m.write_faults a.write_faults inputs.writes_rise (k.journal ∷ k.outs) (up_to_rose (k.journal ∷ k.outs) m a up_to),
     λ told. inr (empty_part k c (opened_in m ins) old a nothing
         (record { config = config told; heads = heads_opened old m k.ins ins told heads })
         (λ name. elim (opens.each (told_m told) name) [ inl same ↦ inl (same ∙ inputs.files name (λ x. x)) | inr empty ↦ inr empty ])
         (unwritten (k.journal ∷ k.outs) old m a (λ name. inputs.files name (λ x. x)) (told_m told) up_to)),
+    rose_since old.write_faults m.write_faults a.write_faults inputs.writes_rise (k.journal ∷ k.outs) (up_to_rose (k.journal ∷ k.outs) m a up_to),
   )
 
 -- ---- what is handed to the windows
@@ -416,16 +417,15 @@ module _ (words : List (String Global)) (run : are_pairs words ≡ true) (c : Se
       let le = λ (n : List ℕ). le_trans (inputs.reads_rise n) (opens.touches.reads_rise n) in
       let unread = rose_since old.read_faults a.read_faults b.read_faults le k.ins (rose_among a.read_faults b.read_faults k.ins (name_of a (slots_of ins) rose.0) among rose.2) in (
         others r.touches,
-        inr unread,
         λ told. inr (inr (unread, interrupted_whole r.touches told (r.ends (told_a told)))),
-        λ m. r.counts.1 m ∙ quiet.1 m,
+        (inr unread, λ m. r.counts.1 m ∙ quiet.1 m),
       )
   windows_ended (Err faults.Write) r =
       let rose = r.write refl in
       let among = written_among words run old a ins journal outs heads_a outputs rose.0 rose.1 in
       let le = λ (n : List ℕ). le_trans (inputs.writes_rise n) (opens.touches.writes_rise n) in (
         others r.touches,
-        rose_since old.write_faults a.write_faults b.write_faults le (k.journal ∷ k.outs) (rose_among a.write_faults b.write_faults (k.journal ∷ k.outs) rose.0 among rose.2),
         λ told. inr (interrupted_front r.touches told (r.ends (told_a told))),
+        rose_since old.write_faults a.write_faults b.write_faults le (k.journal ∷ k.outs) (rose_among a.write_faults b.write_faults (k.journal ∷ k.outs) rose.0 among rose.2),
       )
   windows_ended (Err faults.Memory) r = (others r.touches, λ told. inr (interrupted_front r.touches told (r.ends (told_a told))), none_then old a b quiet r.counts)

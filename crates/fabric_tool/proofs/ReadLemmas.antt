@@ -3,9 +3,11 @@ use Rattle.std.proofs.Common.{◌≡◌, ℕ, ◌<◌, List, ◌++◌, length, l
 use Rattle.std.specs.Prelude.{Result}
 use Rattle.std.proofs.lemmas.Bool.{lt-ltb}
 use Rattle.std.proofs.lemmas.List.{append-nil, length-take-le}
+use Rattle.fab_base.specs.Ending.{SparesReads}
 use Rattle.fab_base.specs.Seen.{Seen, Reads, Rose, OpensIn, Fills}
 use Rattle.fab_base.specs.declared.values.Failed.{Failed}
 use Rattle.fab_base.proofs.Depots.{reads_refl, reads_trans, rose_later, told_stays}
+use Rattle.fab_base.proofs.EndingLemmas.{spares_reads_then}
 use Rattle.fab_config.specs.Settings.{Settings}
 use Rattle.fab_config.specs.Text.{decoded}
 use Rattle.fab_config.specs.Told.{TellsText}
@@ -14,9 +16,14 @@ use Rattle.fab_config.specs.declared.ConfigWhy.TheVariants as why
 use Rattle.fab_config.specs.declared.reading.ConfigError.{ConfigError}
 use Rattle.fab_config.specs.declared.reading.ConfigError.TheVariants as errors
 use Rattle.pcap_file.proofs.lemmas.Numbers.{le_or_lt}
+use Rattle.fabric_tool.specs.Outcome.{outcome_end}
 use Rattle.fabric_tool.specs.Reading.{TextRead, ConfigRead, misread_by}
 use Rattle.fabric_tool.specs.declared.outcome.Outcome.{Outcome}
 use Rattle.fabric_tool.specs.declared.outcome.Outcome.TheVariants as ends
+
+-- of an outcome that is this one
+pub spares_by : {x o : Outcome} (a b : Seen) → x ≡ o → SparesReads (outcome_end x) a b → SparesReads (outcome_end o) a b
+spares_by {x} {o} a b is spares = subst (λ (y : Outcome). SparesReads (outcome_end y) a b) is spares
 
 -- ---- a configuration
 
@@ -27,7 +34,7 @@ long_text l lt = rw (lt-ltb 1048576 (length l) lt, decoded) refl
 module _ (s : ℕ) (a b : Seen) (text : List ℕ) where
   -- the text couldn't be read
   pub text_failed : (e : Failed) → Fills {E = Failed} s text a b (Err e) → TextRead s a b (Err ends.ReadFault)
-  text_failed e f = record { reads = f.reads; ok = λ told. tt; fault = λ told x h. absurd (cc); cause = λ h. f.cause; only = inr (inl refl); counts = λ no. absurd (no refl) }
+  text_failed e f = record { reads = f.reads; ok = λ told. tt; fault = λ told x h. absurd (cc); cause = λ h. f.cause; only = inr (inl refl); counts = tt }
 
   module _ (got : ℕ) (f : Fills {E = Failed} s text a b (Ok got)) (size : length text ≡ 1048577) where
     -- what was got has the value of what is left, also where more is left than the room takes
@@ -41,7 +48,7 @@ module _ (s : ℕ) (a b : Seen) (text : List ℕ) where
     ]
 
     pub text_value : (c : Settings) → decoded (take got text) ≡ Ok c → TextRead s a b (Ok c)
-    text_value c is = record { reads = f.reads; ok = λ told. sym (same_value told) ∙ is; fault = λ told. tt; cause = λ h. absurd (cc); only = tt; counts = λ no. f.counts }
+    text_value c is = record { reads = f.reads; ok = λ told. sym (same_value told) ∙ is; fault = λ told. tt; cause = λ h. absurd (cc); only = tt; counts = f.counts }
 
     text_fault : (x : ConfigFault) → decoded (take got text) ≡ Err x → TextRead s a b (Err (ends.Config x))
     text_fault x is = record {
@@ -50,11 +57,11 @@ module _ (s : ℕ) (a b : Seen) (text : List ℕ) where
       fault = λ told y h. let same : x ≡ y = cc in sym (same_value told) ∙ is ∙ ap (λ (z : ConfigFault). Err z) same;
       cause = λ h. absurd (cc);
       only = inl (x, refl);
-      counts = λ no. f.counts;
+      counts = f.counts;
     }
 
     text_memory : TextRead s a b (Err ends.Memory)
-    text_memory = record { reads = f.reads; ok = λ told. tt; fault = λ told x h. absurd (cc); cause = λ h. absurd (cc); only = inr (inr refl); counts = λ no. f.counts }
+    text_memory = record { reads = f.reads; ok = λ told. tt; fault = λ told x h. absurd (cc); cause = λ h. absurd (cc); only = inr (inr refl); counts = f.counts }
 
     -- an error of reading what was got
     pub text_misread : (e : ConfigError) → TellsText e (decoded (take got text)) → TextRead s a b (Err (misread_by e))
@@ -62,7 +69,7 @@ module _ (s : ℕ) (a b : Seen) (text : List ℕ) where
     text_misread errors.Memory tells = text_memory
 
 pub text_no_room : (s : ℕ) (a : Seen) → TextRead s a a (Err ends.Memory)
-text_no_room s a = record { reads = reads_refl (a.name s) a; ok = λ told. tt; fault = λ told x h. absurd (cc); cause = λ h. absurd (cc); only = inr (inr refl); counts = λ no m. refl }
+text_no_room s a = record { reads = reads_refl (a.name s) a; ok = λ told. tt; fault = λ told x h. absurd (cc); cause = λ h. absurd (cc); only = inr (inr refl); counts = λ m. refl }
 
 -- a configuration that was opened and read
 module _ (name : List ℕ) (s : ℕ) (a b c : Seen) (opens : OpensIn {E = Failed} name a b (Ok s)) where
@@ -79,7 +86,7 @@ module _ (name : List ℕ) (s : ℕ) (a b c : Seen) (opens : OpensIn {E = Failed
     fault = λ told. tt;
     cause = λ h. absurd (cc);
     only = tt;
-    counts = λ no m. t.counts no m ∙ opens.counts m;
+    counts = λ m. t.counts m ∙ opens.counts m;
   }
   config_opened (Err e) t = record {
     reads = reads_trans name a b c opens.reads (subst (λ n. Reads n b c) is_name t.reads);
@@ -87,8 +94,8 @@ module _ (name : List ℕ) (s : ℕ) (a b c : Seen) (opens : OpensIn {E = Failed
     fault = λ told f h. record { text = b.left s; file = opens.left told; value = t.fault (told_b told) f h };
     cause = λ h. rose_later _ _ _ opens.reads.keeps.reads_rise (subst (λ n. Rose (b.read_faults n) (c.read_faults n)) is_name (t.cause h));
     only = t.only;
-    counts = λ no m. t.counts no m ∙ opens.counts m;
+    counts = spares_reads_then (outcome_end e) a b c opens.counts t.counts;
   }
 
 pub config_unopened : (name : List ℕ) (a b : Seen) (e : Failed) → OpensIn {E = Failed} name a b (Err e) → ConfigRead name a b (Err ends.ReadFault)
-config_unopened name a b e opens = record { reads = opens.reads; ok = λ told. tt; fault = λ told f h. absurd (cc); cause = λ h. opens.cause; only = inr (inl refl); counts = λ no. absurd (no refl) }
+config_unopened name a b e opens = record { reads = opens.reads; ok = λ told. tt; fault = λ told f h. absurd (cc); cause = λ h. opens.cause; only = inr (inl refl); counts = tt }

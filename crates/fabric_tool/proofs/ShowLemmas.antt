@@ -1,8 +1,8 @@
 -- How `replay` and `show` end, by how their check ended.
-use Rattle.std.proofs.Common.{◌≡◌, ◌≢◌, ℕ, ◌-◌, ◌<◌, ◌≤◌, List, [], ◌∷◌, ◌++◌, length, true, Ok, Err, refl, ap, ◌∙◌, arith, inl, inr}
+use Rattle.std.proofs.Common.{◌≡◌, ℕ, ◌-◌, ◌<◌, ◌≤◌, List, [], ◌∷◌, ◌++◌, length, true, Ok, Err, refl, ap, ◌∙◌, arith, inl, inr}
 use Rattle.std.specs.Prelude.{String}
 use Rattle.std.specs.declared.alloc.Global.{Global}
-use Rattle.fab_base.specs.Ending.{NoFaults}
+use Rattle.fab_base.specs.Ending.{SparesReads}
 use Rattle.fab_base.specs.Seen.{Seen, SameFiles}
 use Rattle.fab_config.specs.Settings.{Settings}
 use Rattle.pcap_file.specs.declared.Budget.{Budget}
@@ -15,12 +15,12 @@ use Rattle.fabric_tool.specs.Checking.{Finds, IsStanding, IsLegalJournal, IsShow
 use Rattle.fabric_tool.specs.Command.{RunNames, are_ports, names_of, show_of, input_of, count_of, Replay, Show}
 use Rattle.fabric_tool.specs.Ends.{Holds}
 use Rattle.fabric_tool.specs.Inputs.{HaveNoRoom, MOST_BYTES}
+use Rattle.fabric_tool.specs.Outcome.{outcome_end}
 use Rattle.fabric_tool.specs.declared.command.Width.{Width}
 use Rattle.fabric_tool.specs.declared.command.Width.TheVariants as widths
 use Rattle.fabric_tool.specs.declared.outcome.Outcome.{Outcome}
 use Rattle.fabric_tool.specs.declared.outcome.Outcome.TheVariants as ends
 use Rattle.fabric_tool.proofs.CheckLemmas.{ins_named, rose_given}
-use Rattle.fabric_tool.proofs.HeadLemmas.{unread_is}
 use Rattle.fabric_tool.proofs.NameLemmas.{ports}
 use Rattle.run_files.proofs.NameLemmas.{length-counted}
 
@@ -33,7 +33,7 @@ long_journal d (name ∷ names) journal some above = record { before = []; name 
 
 -- the configuration or the journal can't be read
 pub given_ended : (w : Width) (words : List (String Global)) → are_ports w words ≡ true → (a z : Seen) (x : Outcome) → GivenRead (names_of w words) a z (Err x) → IsChecked w (names_of w words) a z (Err x)
-given_ended w words run a z x r = go x r.ended (λ other. (r.counts (λ is. other (unread_is x is)), r.writes))
+given_ended w words run a z x r = go x r.ended r.counts
   where
     same : SameFiles a z
     same m = r.touches.files m (λ y. y)
@@ -45,19 +45,19 @@ given_ended w words run a z x r = go x r.ended (λ other. (r.counts (λ is. othe
         let ports_some = (ports w words run).some in
         omega arith
 
-    go : (x : Outcome) → GivenEnds (names_of w words) a z x → (x ≢ ends.ReadFault → NoFaults a z) → IsChecked w (names_of w words) a z (Err x)
-    go (ends.Config fault) e none = (same, λ told. e told, none (λ is. cc))
-    go (ends.Limit kind) e none = (
+    go : (x : Outcome) → GivenEnds (names_of w words) a z x → SparesReads (outcome_end x) a z → IsChecked w (names_of w words) a z (Err x)
+    go (ends.Config fault) e spares = (same, λ told. e told, (spares, r.writes))
+    go (ends.Limit kind) e spares = (
       same,
       λ told.
           let l = e.1 told in
           inl (e.0, record { settings = l.0; config = l.1; journal = l.2; lines = l.3; heads = long_journal a (names_of w words).ins l.2 some l.4 }),
-      none (λ is. cc),
+      (spares, r.writes),
     )
-    go ends.ReadFault (inl rose) none = (same, rose_given w words a z (inl rose), λ told. inl rose, r.writes)
-    go ends.ReadFault (inr e) none = (same, rose_given w words a z (inr (inl e.0)), λ told. inr (inl (let config = e.1 told in (config.0, config.1, e.0))), r.writes)
-    go ends.Memory e none = (same, λ told. tt, none (λ is. cc))
-    go x e none = absurd e
+    go ends.ReadFault (inl rose) spares = (same, λ told. inl rose, (rose_given w words a z (inl rose), r.writes))
+    go ends.ReadFault (inr e) spares = (same, λ told. inr (inl (let config = e.1 told in (config.0, config.1, e.0))), (rose_given w words a z (inr (inl e.0)), r.writes))
+    go ends.Memory e spares = (same, λ told. tt, (spares, r.writes))
+    go x e spares = absurd e
 
 -- ---- behind it
 

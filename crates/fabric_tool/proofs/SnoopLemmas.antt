@@ -1,5 +1,5 @@
 -- What follows from how `snoop` ended.
-use Rattle.std.proofs.Common.{◌≡◌, ◌≢◌, ℕ, List, ◌++◌, [], ◌∷◌, length, ◌⊎◌, Ok, Err, IsTrue, refl, sym, ap, ◌∙◌, subst, arith, inl, inr}
+use Rattle.std.proofs.Common.{◌≡◌, ℕ, List, ◌++◌, [], ◌∷◌, length, ◌⊎◌, Ok, Err, IsTrue, refl, sym, ap, ◌∙◌, subst, arith, inl, inr}
 use Rattle.std.specs.Prelude.{Result, String, map}
 use Rattle.std.specs.declared.alloc.Global.{Global}
 use Rattle.fab_base.specs.Ending.{end_by, NoFaults, Counts, RoseIn}
@@ -30,7 +30,7 @@ use Rattle.fabric_tool.specs.Inputs.{HasConfig, HasFault, LIMITS}
 use Rattle.fabric_tool.specs.Opening.{stopped_by, crossed_by}
 use Rattle.fabric_tool.specs.Outcome.{status_of, line_of}
 use Rattle.fabric_tool.specs.Reading.{ConfigRead}
-use Rattle.fabric_tool.specs.Snooping.{HasSnooped, HasSnoopedFront, HasSnoopFront, IsCaptureUnread, IsStopped, snoop_end, SnoopEnded, SnoopForms, SnoopSays, crossing_of, snoop_meaning}
+use Rattle.fabric_tool.specs.Snooping.{HasSnooped, HasSnoopedFront, HasSnoopFront, IsCaptureUnread, IsSnoopStopped, snoop_end, SnoopEnded, SnoopForms, SnoopSays, crossing_of, snoop_meaning}
 use Rattle.fabric_tool.specs.declared.outcome.Outcome.{Outcome}
 use Rattle.fabric_tool.specs.declared.outcome.Outcome.TheVariants as ends
 use Rattle.fabric_tool.proofs.EndingLemmas.{Left, Said, IsAnswer, less}
@@ -39,8 +39,8 @@ use Rattle.fabric_tool.proofs.AmongLemmas.{none_among}
 use Rattle.fab_base.proofs.EndingLemmas.{none_then}
 use Rattle.run_files.proofs.NameLemmas.{rose_among, rose_since}
 use Rattle.fabric_tool.proofs.ConfigLemmas.{one_value, one_fault, no_fault}
-use Rattle.fabric_tool.proofs.HeadLemmas.{not_unread, unread_is}
 use Rattle.fabric_tool.proofs.PartLemmas.{all_fronts}
+use Rattle.fabric_tool.proofs.ReadLemmas.{spares_by}
 
 -- whole captures are fronts
 whole_captures : (k : SnoopNames) (passes drops : ℕ) (old new : Seen) → HasSnooped k passes drops old new → HasSnoopedFront k old new
@@ -103,7 +103,7 @@ module _ (k : SnoopNames) (d : Seen) where
       let same = one_value d k.config one.settings other.settings one.config other.config in
       ended_once other.settings one.result other.result o p (sym one.crosses ∙ other.crosses) (subst (λ (c : Settings). EndsBy c one.result o) same one.ends_so) other.ends_so
 
-  refusal : (fault : GatherFault) → IsStopped k d fault → Finds k d (stopped_by (fault_from fault))
+  refusal : (fault : GatherFault) → IsSnoopStopped k d fault → Finds k d (stopped_by (fault_from fault))
   refusal fault s = inr (record { settings = s.settings; config = s.config; result = Err fault; crosses = s.stops; ends_so = refl })
 
   said : (p : Outcome) → SnoopSays k d p → Finds k d p
@@ -175,19 +175,15 @@ snoop_laws k = record {
 -- the configuration can't be taken
 pub not_configured : (k : SnoopNames) (old new : Seen) (x : Outcome) → ConfigRead k.config old new (Err x) → Holds (Snoop k) old new x
 not_configured k old new x read = elim read.only [
-  | inl fault ↦ subst (Holds (Snoop k) old new) (sym fault.1) (read.reads.files, λ told. read.fault told fault.0 fault.1, none (ends.Config fault.0) fault.1 (λ is. cc))
+  | inl fault ↦ subst (Holds (Snoop k) old new) (sym fault.1) (read.reads.files, λ told. read.fault told fault.0 fault.1, (spares_by old new fault.1 read.counts, read.reads.writes))
   | inr other ↦ elim other [
-    | inl failed ↦ subst (Holds (Snoop k) old new) (sym failed) (read.reads.files, inl (rose failed), λ told. inl (rose failed), read.reads.writes)
-    | inr memory ↦ subst (Holds (Snoop k) old new) (sym memory) ((λ m other. read.reads.files m), λ told. inl read.reads.files, none ends.Memory memory (λ is. cc))
+    | inl failed ↦ subst (Holds (Snoop k) old new) (sym failed) (read.reads.files, λ told. inl (rose failed), (inl (rose failed), read.reads.writes))
+    | inr memory ↦ subst (Holds (Snoop k) old new) (sym memory) ((λ m other. read.reads.files m), λ told. inl read.reads.files, (spares_by old new memory read.counts, read.reads.writes))
   ]
 ]
   where
     rose : x ≡ ends.ReadFault → Rose (old.read_faults k.config) (new.read_faults k.config)
     rose failed = read.cause (ap (λ (o : Outcome). let r : Result Settings Outcome = Err o in r) failed)
-
-    -- no fault was counted where none is told
-    none : (o : Outcome) → x ≡ o → o ≢ ends.ReadFault → NoFaults old new
-    none o is other = (read.counts (λ e. other (sym is ∙ unread_is x e)), read.reads.writes)
 
 -- the names of the ports, as words
 pub bridges_as : {x y : List (String Global)} {c : Settings} {b z : Seen} {r : Result Crossed RunFault} → x ≡ y → Bridges (ins_of x) (outs_of x) LIMITS c b z r → Bridges (ins_of y) (outs_of y) LIMITS c b z r
@@ -206,7 +202,7 @@ module _ (k : SnoopNames) (c : Settings) (a b z : Seen) (config : ConfigRead k.c
   told_b told = subst IsTrue (sym config.reads.keeps.told) told
 
   counted : NoFaults a b
-  counted = (config.counts (not_unread c), config.reads.writes)
+  counted = (config.counts, config.reads.writes)
 
   touched : Touches Nothing (Only k.config) a b
   touched = reads_touches k.config a b config.reads
@@ -229,7 +225,7 @@ module _ (k : SnoopNames) (c : Settings) (a b z : Seen) (config : ConfigRead k.c
     apart = λ before later x q is. apart (forwarder_of c) (history (forwarder_of c) [] before) x.port x.caught q;
   }
 
-  stopped_since : (fault : GatherFault) → HasStop k.ins LIMITS b fault → IsTrue a.told → IsStopped k a fault
+  stopped_since : (fault : GatherFault) → HasStop k.ins LIMITS b fault → IsTrue a.told → IsSnoopStopped k a fault
   stopped_since fault h told = record { settings = c; config = config.ok told; stops = sym (ap (crossing LIMITS) (files_since a b same k.ins)) ∙ h }
 
   unread_since : IsFirstUnread k.ins LIMITS b z → IsTrue a.told → IsCaptureUnread k a z
@@ -270,15 +266,13 @@ module _ (k : SnoopNames) (c : Settings) (a b z : Seen) (config : ConfigRead k.c
       go (Err faults.Read) e counts =
           let rose = counts.0 in (
             (λ m. e.0 m ∙ same m),
-            inr (rose_since a.read_faults b.read_faults z.read_faults touched.reads_rise k.ins (rose_among b.read_faults z.read_faults k.ins rose.0 rose.1 rose.2)),
             λ told. inr (unread_since (e.1 (told_b told)) told),
-            λ m. counts.1 m ∙ counted.1 m,
+            (inr (rose_since a.read_faults b.read_faults z.read_faults touched.reads_rise k.ins (rose_among b.read_faults z.read_faults k.ins rose.0 rose.1 rose.2)), λ m. counts.1 m ∙ counted.1 m),
           )
       go (Err faults.Write) e counts =
           let rose = counts.0 in (
             others,
-            rose_since a.write_faults b.write_faults z.write_faults touched.writes_rise k.outs (rose_among b.write_faults z.write_faults k.outs rose.0 rose.1 rose.2),
             λ told. front_since (e (told_b told)) told,
-            λ m. counts.1 m ∙ counted.0 m,
+            (rose_since a.write_faults b.write_faults z.write_faults touched.writes_rise k.outs (rose_among b.write_faults z.write_faults k.outs rose.0 rose.1 rose.2), λ m. counts.1 m ∙ counted.0 m),
           )
       go (Err faults.Memory) e counts = (others, λ told. elim (e (told_b told)) [ inl still ↦ inl (λ m. still m ∙ same m) | inr front ↦ inr (front_since front told) ], none counts)

@@ -1,7 +1,7 @@
 -- What `replay` and `show` find: a journal, and outputs, checked against captures.
 use Rattle.std.specs.Prelude.{◌≡◌, ℕ, ◌+◌, ◌-◌, ◌*◌, ◌≤◌, ◌<◌, ◌⊎◌, IsTrue, List, [], ◌∷◌, ◌++◌, length, get_or, Some, Ok, Err, Result, IfOk, IfErr, OnOk, OnErr, Vec}
 use Rattle.std.specs.declared.alloc.Global.{Global}
-use Rattle.fab_base.specs.Ending.{NoFaults}
+use Rattle.fab_base.specs.Ending.{end_by, NoFaults, SparesReads}
 use Rattle.fab_base.specs.Seen.{Seen, SameFiles, SameReadFaults, SameWriteFaults, Reads, Touches, Nothing, Rose, bytes_of}
 use Rattle.fab_base.specs.declared.values.Failed.{Failed}
 use Rattle.fab_config.specs.Settings.{Settings}
@@ -26,12 +26,11 @@ use Rattle.run_files.specs.Names.{AnyRose, Among}
 use Rattle.fabric_tool.specs.declared.command.Width.{Width}
 use Rattle.fabric_tool.specs.declared.command.Width.TheVariants as widths
 use Rattle.fabric_tool.specs.Inputs.{HasConfig, HasFault, HasInputs, HasBadHead, HaveNoRoom, IsFirstUnread, MOST_BYTES, MOST_FRAMES}
-use Rattle.fabric_tool.specs.Reading.{TellsReads}
 use Rattle.fabric_tool.specs.declared.outcome.Outcome.{Outcome}
 use Rattle.fabric_tool.specs.declared.outcome.Outcome.TheVariants as ends
 use Rattle.fab_base.specs.Sunk.{Sunk}
 use Rattle.fabric_tool.specs.Meaning.{Meaning}
-use Rattle.fabric_tool.specs.Outcome.{legal_text}
+use Rattle.fabric_tool.specs.Outcome.{legal_text, outcome_end}
 
 -- ---- what is checked
 
@@ -230,7 +229,7 @@ pub record JournalRead (name : List ℕ) (limit : ℕ) (old new : Seen) (result 
   pub ok : IsTrue old.told → IfOk result (λ v. old.file name ≡ Some v.items)
   pub within : IfOk result (λ v. length v.items ≤ limit)
   pub ended : IfErr result (JournalEnds name limit old new)
-  pub counts : TellsReads old new result
+  pub counts : SparesReads (end_by outcome_end result) old new
 
 -- slots that are open inputs of these names, of which nothing is given yet
 abbrev pub AreOpenInputs : Seen → Seen → List (List ℕ) → List ℕ → Type 0
@@ -269,7 +268,7 @@ pub record GivenRead (k : RunNames) (old new : Seen) (result : Result (Settings 
   pub given : IfOk result (λ g. HasGiven k g.0 g.1.items old new)
   pub within : IfOk result (λ g. length g.1.items ≤ MOST_BYTES)
   pub ended : IfErr result (GivenEnds k old new)
-  pub counts : TellsReads old new result
+  pub counts : SparesReads (end_by outcome_end result) old new
   pub writes : SameWriteFaults old new
 
 -- the command by how many names a port has

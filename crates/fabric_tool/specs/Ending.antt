@@ -2,8 +2,8 @@
 use Rattle.std.specs.Prelude.{◌≡◌, ℕ, false, IsTrue, List}
 use Rattle.std.specs.List.{list_any}
 use Rattle.std.specs.Str.{bytes_eq}
-use Rattle.fab_base.specs.Ending.{NoFaults}
-use Rattle.fab_base.specs.Seen.{Seen, SameFiles, SameReadFaults, SameWriteFaults}
+use Rattle.fab_base.specs.Ending.{End, Said, Read, Write, Counts}
+use Rattle.fab_base.specs.Seen.{Seen, SameFiles}
 use Rattle.run_files.specs.Names.{AnyRose}
 
 -- How a command can end. What is said here of bytes needs a depot that tells them.
@@ -36,14 +36,17 @@ WriteRose names old new = AnyRose old.write_faults new.write_faults names
 abbrev pub KeepsAllBut : List (List ℕ) → Seen → Seen → Type 0
 KeepsAllBut names old new = (m : List ℕ) → list_any (λ n. bytes_eq n m) names ≡ false → new.file m ≡ old.file m
 
--- What holds where a command that reads and writes these names ends so. No fault of the depot is passed over: where it isn't told, no
--- count of such faults has changed.
+-- what is counted of the faults of the depot: none, or of one kind, of one of these names
+abbrev pub CountsOf : (reads writes : List (List ℕ)) → End → Seen → Seen → Type 0
+CountsOf reads writes end old new = Counts (ReadRose reads old new) (WriteRose writes old new) end old new
+
+-- What holds where a command that reads and writes these names ends so. No fault of the depot is passed over.
 abbrev pub EndsBy : (reads writes : List (List ℕ)) → Seen → Seen → Ending → Type 0
 EndsBy reads writes old new Never = ⊥
-EndsBy reads writes old new (Untouched P) = SameFiles old new × (IsTrue old.told → P) × NoFaults old new
-EndsBy reads writes old new (Leaves P) = KeepsAllBut writes old new × (IsTrue old.told → P) × NoFaults old new
-EndsBy reads writes old new (Unread P) = SameFiles old new × ReadRose reads old new × (IsTrue old.told → P) × SameWriteFaults old new
-EndsBy reads writes old new (LeavesUnread P) = KeepsAllBut writes old new × ReadRose reads old new × (IsTrue old.told → P) × SameWriteFaults old new
-EndsBy reads writes old new (Unwritten P) = KeepsAllBut writes old new × WriteRose writes old new × (IsTrue old.told → P) × SameReadFaults old new
-EndsBy reads writes old new (LeavesUnwritten P) = KeepsAllBut writes old new × WriteRose writes old new × (IsTrue old.told → P)
+EndsBy reads writes old new (Untouched P) = SameFiles old new × (IsTrue old.told → P) × CountsOf reads writes Said old new
+EndsBy reads writes old new (Leaves P) = KeepsAllBut writes old new × (IsTrue old.told → P) × CountsOf reads writes Said old new
+EndsBy reads writes old new (Unread P) = SameFiles old new × (IsTrue old.told → P) × CountsOf reads writes Read old new
+EndsBy reads writes old new (LeavesUnread P) = KeepsAllBut writes old new × (IsTrue old.told → P) × CountsOf reads writes Read old new
+EndsBy reads writes old new (Unwritten P) = KeepsAllBut writes old new × (IsTrue old.told → P) × CountsOf reads writes Write old new
+EndsBy reads writes old new (LeavesUnwritten P) = KeepsAllBut writes old new × (IsTrue old.told → P) × WriteRose writes old new
 EndsBy reads writes old new (Also F e) = F × EndsBy reads writes old new e

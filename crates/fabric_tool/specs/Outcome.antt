@@ -1,5 +1,7 @@
 -- How a command ends, its status, and the line that it prints.
 use Rattle.std.specs.Prelude.{ℕ, ◌+◌, List, ◌++◌, codes, decimal}
+use Rattle.fab_base.specs.Ending as ending
+use Rattle.fab_base.specs.Ending.{End}
 use Rattle.fab_base.specs.Texts.{hex, hex_bytes}
 use Rattle.fab_config.specs.declared.ConfigFault.{ConfigFault}
 use Rattle.fab_config.specs.declared.ConfigWhy.{ConfigWhy}
@@ -48,6 +50,13 @@ status_of ReadFault = 3
 status_of WriteFault = 4
 status_of Memory = 5
 status_of (Limit kind) = 6
+
+-- what an outcome rests on
+abbrev pub outcome_end : Outcome → End
+outcome_end ReadFault = ending.Read
+outcome_end WriteFault = ending.Write
+outcome_end Memory = ending.Memory
+outcome_end outcome = ending.Said
 
 -- the line of a run
 abbrev pub run_text : ℕ → ℕ → List ℕ

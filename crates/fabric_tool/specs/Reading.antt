@@ -1,7 +1,7 @@
 -- What reading an input answers.
 use Rattle.std.specs.Prelude.{◌≡◌, ℕ, ◌+◌, ◌*◌, ◌<◌, ◌≤◌, ◌⊎◌, IsTrue, List, [], ◌∷◌, length, Ok, Err, Result, IfOk, IfErr, IsErrOf, Vec}
 use Rattle.std.specs.declared.alloc.Global.{Global}
-use Rattle.fab_base.specs.Ending as ending
+use Rattle.fab_base.specs.Ending.{end_by, SparesReads}
 use Rattle.fab_base.specs.Seen.{Seen, Reads, Rose, Touches, Nothing, SameWriteFaults}
 use Rattle.fab_config.specs.Settings.{Settings}
 use Rattle.fab_config.specs.Text.{decoded}
@@ -23,13 +23,9 @@ use Rattle.run_files.specs.Faults.{fault_from}
 use Rattle.run_files.specs.Names.{AnyRose, Among}
 use Rattle.fabric_tool.specs.Inputs.{HasConfig, HasFault, IsOpened, HasNoHead, IsFirstWithout, HaveNoRoom, IsFirstUnread}
 use Rattle.fabric_tool.specs.Opening.{stopped_by}
-use Rattle.fabric_tool.specs.Outcome.{kind_of}
+use Rattle.fabric_tool.specs.Outcome.{kind_of, outcome_end}
 use Rattle.fabric_tool.specs.declared.outcome.Outcome.{Outcome}
 use Rattle.fabric_tool.specs.declared.outcome.Outcome.TheVariants as ends
-
--- Every fault of reading is told: none is counted where a command doesn't end by it. So want of memory never stands for one.
-abbrev pub TellsReads : {T : Type 0} → Seen → Seen → Result T Outcome → Type 0
-TellsReads old new result = ending.TellsReads ends.ReadFault old new result
 
 -- ---- a configuration
 
@@ -49,7 +45,7 @@ pub record TextRead (s : ℕ) (old new : Seen) (result : Result Settings Outcome
   pub fault : IsTrue old.told → IfErr result (λ o. (f : ConfigFault) → o ≡ ends.Config f → decoded (old.left s) ≡ Err f)
   pub cause : IsErrOf result ends.ReadFault → Rose (old.read_faults (old.name s)) (new.read_faults (old.name s))
   pub only : IfErr result IsConfigEnd
-  pub counts : TellsReads old new result
+  pub counts : SparesReads (end_by outcome_end result) old new
 
 -- a configuration under a name
 pub record ConfigRead (name : List ℕ) (old new : Seen) (result : Result Settings Outcome) : Type 0 where
@@ -58,7 +54,7 @@ pub record ConfigRead (name : List ℕ) (old new : Seen) (result : Result Settin
   pub fault : IsTrue old.told → IfErr result (λ o. (f : ConfigFault) → o ≡ ends.Config f → HasFault old name f)
   pub cause : IsErrOf result ends.ReadFault → Rose (old.read_faults name) (new.read_faults name)
   pub only : IfErr result IsConfigEnd
-  pub counts : TellsReads old new result
+  pub counts : SparesReads (end_by outcome_end result) old new
 
 -- ---- the heads of captures
 
@@ -86,7 +82,7 @@ pub record HeadRead (port : ℕ) (name : List ℕ) (old new : Seen) (had left : 
   pub head : IfOk result (λ i. IsHead old new name i)
   pub taken : IfOk result (λ i. (left.bytes + HEAD ≡ had.bytes) × (left.frames ≡ had.frames))
   pub ended : IfErr result (HeadEnds port name had.bytes old new)
-  pub counts : TellsReads old new result
+  pub counts : SparesReads (end_by outcome_end result) old new
 
 -- ---- the heads of all captures
 
@@ -111,7 +107,7 @@ pub record HeadsRead (names : List (List ℕ)) (old new : Seen) (had left : Budg
   pub heads : IfOk result (λ v. AreHeads old new names v.items)
   pub taken : IfOk result (λ v. (left.bytes + HEAD * length names ≡ had.bytes) × (left.frames ≡ had.frames))
   pub ended : IfErr result (HeadsEnd names had.bytes old new)
-  pub counts : TellsReads old new result
+  pub counts : SparesReads (end_by outcome_end result) old new
   pub writes : SameWriteFaults old new
 
 -- ---- a pcapng file

@@ -73,7 +73,7 @@ pub record HasSnoopedFront (k : SnoopNames) (old new : Seen) : Type 0 where
 
 -- The configuration has a value, and the captures aren't taken for this reason: the first of them, in port order, that isn't, or
 -- the span of all.
-pub record IsStopped (k : SnoopNames) (d : Seen) (fault : GatherFault) : Type 0 where
+pub record IsSnoopStopped (k : SnoopNames) (d : Seen) (fault : GatherFault) : Type 0 where
   pub settings : Settings
   pub config : HasConfig d k.config settings
   pub stops : HasStop k.ins LIMITS d fault
@@ -93,8 +93,8 @@ IsSnoopUnread k old new = Rose (old.read_faults k.config) (new.read_faults k.con
 abbrev pub snoop_end : SnoopNames → Seen → Seen → Outcome → Ending
 snoop_end k old new (ends.Bridged passes drops) = Leaves (HasSnooped k passes drops old new)
 snoop_end k old new (ends.Config fault) = Untouched (HasFault old k.config fault)
-snoop_end k old new (ends.Capture port at why) = Untouched (IsStopped k old (gather.Capture port at why))
-snoop_end k old new (ends.Limit kind) = Untouched (IsStopped k old (gather.Limit kind))
+snoop_end k old new (ends.Capture port at why) = Untouched (IsSnoopStopped k old (gather.Capture port at why))
+snoop_end k old new (ends.Limit kind) = Untouched (IsSnoopStopped k old (gather.Limit kind))
 snoop_end k old new ends.ReadFault = Unread (IsSnoopUnread k old new)
 snoop_end k old new ends.WriteFault = Unwritten (HasSnoopedFront k old new)
 snoop_end k old new ends.Memory = Leaves (SameFiles old new ⊎ HasSnoopedFront k old new)
@@ -136,8 +136,8 @@ pub record HasCrossed (k : SnoopNames) (d : Seen) (passes drops : ℕ) : Type 0 
 abbrev pub SnoopSays : SnoopNames → Seen → Outcome → Type 0
 SnoopSays k d (ends.Bridged passes drops) = HasCrossed k d passes drops
 SnoopSays k d (ends.Config fault) = HasFault d k.config fault
-SnoopSays k d (ends.Capture port at why) = IsStopped k d (gather.Capture port at why)
-SnoopSays k d (ends.Limit kind) = IsStopped k d (gather.Limit kind)
+SnoopSays k d (ends.Capture port at why) = IsSnoopStopped k d (gather.Capture port at why)
+SnoopSays k d (ends.Limit kind) = IsSnoopStopped k d (gather.Limit kind)
 SnoopSays k d _ = ⊥
 
 -- ---- the command

@@ -6,7 +6,6 @@ use Rattle.fabric_tool.specs.Checking.{IsChecked}
 use Rattle.fabric_tool.specs.Inputs.{MOST_BYTES, MOST_FRAMES}
 use Rattle.fab_base.proofs.EndingLemmas.{none_then}
 use Rattle.fabric_tool.proofs.CheckLemmas.{heads_ended, outs_ended, no_fabric, checks_as, check_done, check_refused}
-use Rattle.fabric_tool.proofs.HeadLemmas.{not_unread}
 use Rattle.fabric_tool.proofs.SlotLemmas.{handed}
 use Rattle.fabric_tool.proofs.TouchLemmas.{heads_own, outs_own, check_own}
 use Rattle.fabric_tool.proofs.replaying.check.Goals as goal
@@ -39,7 +38,7 @@ returns-in_default g c =
       checks = λ a given. no_fabric c.args.width c.args.words.now c.requires.ports c.args.config c.args.journal.now a (seen c.args.depot.now) given
           (seen c.heads_of.new.depot) c.in-Ok.ins.items had c.heads_of.new.budget heads.heads heads.touches heads.taken refl refl c.requires.room
           (seen c.outs_of.new.depot) c.in-Ok-outs_of.outs.items outs.touches outs.slots
-          (none_then a (seen c.args.depot.now) (seen c.outs_of.new.depot) given.counts (none_then (seen c.args.depot.now) (seen c.heads_of.new.depot) (seen c.outs_of.new.depot) (heads.counts (not_unread c.in-Ok.ins), heads.writes) (outs.counts, outs.writes)));
+          (none_then a (seen c.args.depot.now) (seen c.outs_of.new.depot) given.counts (none_then (seen c.args.depot.now) (seen c.heads_of.new.depot) (seen c.outs_of.new.depot) (heads.counts, heads.writes) (outs.counts, outs.writes)));
       touches = outs_own c.args.width c.args.words.now _ _ _ heads.touches outs.touches;
     }
 
@@ -76,7 +75,7 @@ returns-in-Ok-check_captures g c =
           (seen c.outs_of.new.depot) c.in-Ok-outs_of.outs.items outs.touches outs.slots
           (seen c.check_captures.new.depot) c.check_captures.new.fabric (c.check_captures.ensures.settings ∙ new) c.check_captures.result
           (checks_as new c.deref_mut.ensures.value c.as_slice.ensures.value c.check_captures.ensures.checks)
-          (none_then a (seen c.args.depot.now) (seen c.outs_of.new.depot) given.counts (none_then (seen c.args.depot.now) (seen c.heads_of.new.depot) (seen c.outs_of.new.depot) (heads.counts (not_unread c.in-Ok.ins), heads.writes) (outs.counts, outs.writes))) c.check_captures.ensures.counts
+          (none_then a (seen c.args.depot.now) (seen c.outs_of.new.depot) given.counts (none_then (seen c.args.depot.now) (seen c.heads_of.new.depot) (seen c.outs_of.new.depot) (heads.counts, heads.writes) (outs.counts, outs.writes))) c.check_captures.ensures.counts
           c.in-Ok-check_captures.entries c.in-Ok-check_captures.is;
       touches = check_own c.args.width c.args.words.now c.requires.ports (seen c.args.depot.now) (seen c.heads_of.new.depot) (seen c.outs_of.new.depot) (seen c.check_captures.new.depot) c.in-Ok.ins.items heads.heads heads.touches c.in-Ok-outs_of.outs.items outs.touches outs.slots
           (checks_as new c.deref_mut.ensures.value c.as_slice.ensures.value c.check_captures.ensures.checks);
@@ -98,7 +97,7 @@ returns g c =
           (seen c.outs_of.new.depot) c.in-Ok-outs_of.outs.items outs.touches outs.slots
           (seen c.check_captures.new.depot) c.check_captures.new.fabric (c.check_captures.ensures.settings ∙ new) c.check_captures.result
           (checks_as new c.deref_mut.ensures.value c.as_slice.ensures.value c.check_captures.ensures.checks)
-          (none_then a (seen c.args.depot.now) (seen c.outs_of.new.depot) given.counts (none_then (seen c.args.depot.now) (seen c.heads_of.new.depot) (seen c.outs_of.new.depot) (heads.counts (not_unread c.in-Ok.ins), heads.writes) (outs.counts, outs.writes))) c.check_captures.ensures.counts
+          (none_then a (seen c.args.depot.now) (seen c.outs_of.new.depot) given.counts (none_then (seen c.args.depot.now) (seen c.heads_of.new.depot) (seen c.outs_of.new.depot) (heads.counts, heads.writes) (outs.counts, outs.writes))) c.check_captures.ensures.counts
           c.in-Err-check_captures.fault c.in-Err-check_captures.is);
       touches = check_own c.args.width c.args.words.now c.requires.ports (seen c.args.depot.now) (seen c.heads_of.new.depot) (seen c.outs_of.new.depot) (seen c.check_captures.new.depot) c.in-Ok.ins.items heads.heads heads.touches c.in-Ok-outs_of.outs.items outs.touches outs.slots
           (checks_as new c.deref_mut.ensures.value c.as_slice.ensures.value c.check_captures.ensures.checks);
