@@ -18,7 +18,7 @@ use Rattle.pcap_file.specs.declared.fault.GatherFault.TheVariants as gather
 use Rattle.fab_gather.specs.Port.{ending}
 use Rattle.pcap_file.specs.Faults as gathering
 use Rattle.pcap_file.specs.Faults.{gather_end}
-use Rattle.run_files.specs.Faults.{IsStopped, fault_from, run_end}
+use Rattle.run_files.specs.Faults.{fault_from, run_end}
 use Rattle.fab_base.proofs.EndingLemmas.{none_then, spares_writes_then}
 use Rattle.fab_base.specs.Slots.{name_of, NameIn}
 use Rattle.fab_gather.specs.Ports.{slots_of, AreInputs, stop_from, walk_at}
