@@ -1,9 +1,10 @@
 //! The records of several ports at once, those of each port in a thread of its own.
-ghost use Rattle.std.specs.Prelude.{◌≡◌, ℕ, ◌+◌, ◌<◌, ◌≤◌, ◌^◌, ◌++◌, ◌∷◌, [], false, List, length, IsTrue, OnOk, vec_capacity, vec_len, slice_index_or, slice_set};
+ghost use Rattle.std.specs.Prelude.{◌≡◌, ℕ, ◌+◌, ◌-◌, ◌<◌, ◌≤◌, ◌^◌, ◌++◌, ◌∷◌, [], false, List, length, IsTrue, OnOk, vec_capacity, vec_len, slice_index_or, slice_set};
 ghost use Rattle.fab_policy.specs.Growing.{records_to};
 ghost use Rattle.fab_messages.specs.Message.{can_send};
 ghost use Rattle.fab_pages.specs.Pages.{Adds, AreEarly, GoOn, GoesOn, Writes, items_in, piece_at, sent_by, sents_of};
 ghost use Rattle.fab_pages.specs.Encoders.{AreBelow, AreOut, IsEncoded, NoneFor, NoneRefused, page_in};
+ghost use Rattle.fab_pages.specs.Sizes.{bytes_out, has_few, size_at, size_in};
 ghost use Rattle.fab_pages.specs.declared.encoders.Encoder as of_pages;
 
 use crate::cuts::{cut_all, lengths_of};
@@ -74,26 +75,49 @@ fn write_by<R: Threads + Sync>(
 }
 
 // Whether what is sent has less than many bytes.
-fn are_few(drained: &Drained) -> bool {
-    let mut bytes = 0usize;
-    for index in 0..drained.outs.len() {
-        let Some(out) = drained.outs.at(index) else {
-            unreachable!()
-        };
-        bytes = bytes.saturating_add(size_of(&drained.events, &out.message));
+fn are_few(drained: &Drained) -> bool
+    ensures { result ≡ has_few drained.now.events drained.now.outs }
+{
+    lacking(&drained.events, drained.outs.items()) > 0
+}
+
+// How many bytes what is sent lacks to many.
+fn lacking(events: &EventList, outs: &[Out]) -> usize
+    ensures { result ≡ 262144 - bytes_out events.now outs.now }
+{
+    let mut left = MANY;
+    for out in outs {
+        left = left.saturating_sub(size_of(events, &out.message));
     }
-    bytes < MANY
+    left
 }
 
 // About how many bytes a message has.
-fn size_of(events: &EventList, message: &OutMessage) -> usize {
+fn size_of(events: &EventList, message: &OutMessage) -> usize
+    ensures { result ≡ size_in events.now message.now }
+{
     match message {
         OutMessage::Solicited { size, .. } => usize::from(*size),
-        OutMessage::Forwarded { entry, .. } => match events.at(*entry) {
-            Some(Event::Frame { caught, .. }) => caught.bytes.view().len(),
-            _ => SHORT,
-        },
-        _ => SHORT,
+        OutMessage::Forwarded { entry, .. } => size_of_entry(events, *entry),
+        OutMessage::Vlans { .. }
+        | OutMessage::Advertisement
+        | OutMessage::LoginAccept { .. }
+        | OutMessage::LoginReply { .. }
+        | OutMessage::ServiceReply { .. }
+        | OutMessage::Ct { .. }
+        | OutMessage::Clear { .. }
+        | OutMessage::Rscn { .. } => SHORT,
+    }
+}
+
+// How many bytes the frame of an entry has.
+fn size_of_entry(events: &EventList, entry: usize) -> usize
+    ensures { result ≡ size_at entry events.now }
+{
+    match events.at(entry) {
+        Some(Event::Frame { caught, .. }) => caught.bytes.view().len(),
+        Some(Event::Tick { .. }) => SHORT,
+        None => SHORT,
     }
 }
 

@@ -1,5 +1,6 @@
 -- The place behind the last frame of the captures, where a journal ends.
-use Rattle.std.proofs.Common.{◌≡◌, ℕ, ◌+◌, ◌≤◌, inr, Bool, true, false, eqb, MatchBool, List, [], length, drop, Option, None, refl, sym, ◌∙◌, arith}
+use Rattle.std.proofs.Common.{◌≡◌, ℕ, ◌+◌, ◌≤◌, inr, Bool, true, false, eqb, MatchBool, List, [], length, drop, Option, None, refl, sym, subst, ◌∙◌, arith, Ok, Err}
+use Rattle.std.specs.Prelude.{Result, IfOk, IfErr}
 use Rattle.std.proofs.lemmas.Bool.{eqb-true, eqb-false}
 use Rattle.fab_policy.specs.Journal.{Journal}
 use Rattle.fab_policy.specs.Standing.{Contents}
@@ -8,12 +9,13 @@ use Rattle.fab_policy.specs.declared.line.Line.TheVariants.{Tick, Frame}
 use Rattle.fab_policy.specs.declared.verdict.Verdict.{Verdict}
 use Rattle.pcap_file.specs.declared.Record.{Record}
 use Rattle.fab_replay.specs.Front.{IsFirstWrong, IsGatheredTo, IsNextFrame, expects_tick, has_left}
-use Rattle.fab_replay.specs.Lines.{IsLineAt, IsUnread, behind_by, number_behind}
+use Rattle.fab_replay.specs.Lines.{IsLineAt, IsOfLine, IsUnread, behind_by, end_fault, number_behind}
 use Rattle.fab_replay.specs.Steps.{IsFound, IsReached, Scene}
 use Rattle.fab_replay.specs.declared.fault.CheckFault.{CheckFault}
 use Rattle.fab_replay.specs.declared.fault.CheckFault.TheVariants as fault
 use Rattle.fab_replay.specs.declared.fault.LineWhy.TheVariants as why
 use Rattle.fab_replay.specs.declared.lines.Place.{Place}
+use Rattle.fab_replay.proofs.LineLemmas.{line_as, unread_as}
 use Rattle.fab_replay.proofs.LeftLemmas.{gathered_all, left_some}
 use Rattle.fab_replay.proofs.ListLemmas.{none_long, rest_none}
 use Rattle.fab_replay.proofs.StepLemmas.{wrong_here}
@@ -56,3 +58,14 @@ module _ (x : Scene) (J : Journal) (F : Contents) (p : Place) (h : IsReached x J
   text_behind (fault.Line n why.Text) ne u = wrong_here x J F p h all_gathered n why.Text u.0 (u.1, u.2)
   text_behind fault.Memory ne u = tt
   text_behind _ ne u = absurd u
+
+  -- what is read there, a line or none
+  pub fault_behind : (left : has_left x.settings x.records J ≡ false) (unexpected : expects_tick x.settings x.records J ≡ false) {b : List ℕ} (q : Place) (r : Result Line CheckFault) → x.bytes ≡ b → (drop p.at b ≡ [] → ⊥) → IfOk r (λ l. IsLineAt b p q l) → IfErr r (λ e. IsUnread b p e × (q ≡ p)) → IsFound x (end_fault r p)
+  fault_behind left unexpected q (Ok l) same some line unread = line_behind left unexpected q l (line_as same refl line)
+  fault_behind left unexpected {b} q (Err e) same some line unread = text_behind e (subst (λ t. drop p.at t ≡ [] → ⊥) (sym same) some) (unread_as p e same unread.0)
+
+-- it is of a line
+pub end_of_line : (p : Place) (r : Result Line CheckFault) → IfErr r IsOfLine → IsOfLine (end_fault r p)
+end_of_line p (Ok (Tick m ended)) of_line = tt
+end_of_line p (Ok (Frame port index verdict told)) of_line = tt
+end_of_line p (Err e) of_line = of_line

@@ -1,6 +1,6 @@
 -- What a fabric stands for while the lines of a journal are checked, and where the check ends.
-use Rattle.std.proofs.Common.{◌≡◌, ℕ, inl, inr, Bool, true, false, List, [], ◌∷◌, ◌++◌, length, drop, Option, Some, IsTrue, IsSome, Result, Err, refl, sym, ap, ◌∙◌, subst, arith}
-use Rattle.std.specs.Prelude.{unwrap_or}
+use Rattle.std.proofs.Common.{◌≡◌, ℕ, inl, inr, Bool, true, false, List, [], ◌∷◌, ◌++◌, length, drop, Option, Some, IsTrue, IsSome, Result, Ok, Err, refl, sym, ap, ◌∙◌, subst, arith}
+use Rattle.std.specs.Prelude.{IfErr, unwrap_or}
 use Rattle.fab_base.specs.declared.values.Caught.{Caught}
 use Rattle.fab_config.specs.Settings.{Settings}
 use Rattle.fab_policy.proofs.Standing.{legal_after, stands_after}
@@ -19,7 +19,7 @@ use Rattle.fab_policy.specs.declared.verdict.Verdict.{Verdict}
 use Rattle.fab_gather.specs.declared.shelf.Shelf.{Shelf}
 use Rattle.pcap_file.specs.declared.Record.{Record}
 use Rattle.fab_replay.specs.Front.{expects_tick}
-use Rattle.fab_replay.specs.Lines.{IsLineAt, IsUnread, behind_by, first_line, format_of, number_behind, text_in}
+use Rattle.fab_replay.specs.Lines.{IsLineAt, IsUnread, behind_by, end_fault, first_line, format_of, number_behind, text_in}
 use Rattle.fab_replay.specs.Remains.{HasTick, IsBegun, IsTaken, IsTickIf, Remains}
 use Rattle.fab_replay.specs.Steps.{HasTurned, IsAlong, IsOnShelf, IsReached, IsRefused, IsTickNow, IsWindow, Left, Scene, refusal}
 use Rattle.fab_replay.specs.Verdicts.{IsAfter, IsMisjudged}
@@ -30,7 +30,7 @@ use Rattle.fab_replay.specs.declared.lines.Place.{Place}
 use Rattle.fab_replay.specs.declared.verdicts.Misjudged.{Misjudged}
 use Rattle.fab_replay.specs.declared.verdicts.Misjudged.TheVariants.{Wrong, Memory}
 use Rattle.fab_replay.proofs.FrontLemmas.{begun_frame, same_clock}
-use Rattle.fab_replay.proofs.LineLemmas.{behind_more}
+use Rattle.fab_replay.proofs.LineLemmas.{behind_more, unread_as}
 use Rattle.fab_replay.proofs.StepLemmas.{frame_line}
 use Rattle.fab_replay.proofs.WindowLemmas.{next_from}
 
@@ -96,6 +96,11 @@ module _ (x : Scene) (told : Bool) (J : Journal) (F : Contents) (p : Place) (h :
   pub stays_behind : (l : Line) → (IsTrue told → expects_tick x.settings x.records J ≡ false) → Left x told F (behind_by l p)
   stays_behind (Tick m ended) none = stays_tick (number_behind p.format p.entries) refl none
   stays_behind (Frame port index verdict at) none = stays_frame (number_behind p.format p.entries) refl
+
+  -- and what is read behind the last frame
+  pub stays_at_end : {b : List ℕ} (q : Place) (r : Result Line CheckFault) → x.bytes ≡ b → (IsTrue told → expects_tick x.settings x.records J ≡ false) → IfErr r (λ e. IsUnread b p e × (q ≡ p)) → Left x told F (end_fault r p)
+  stays_at_end q (Ok l) same none unread = stays_behind l none
+  stays_at_end q (Err e) same none unread = stays_unread e (unread_as p e same unread.0)
 
   pub legal_old : Legal F.settings J
   legal_old = subst (λ (s : Settings). Legal s J) (sym h.settings) h.legal

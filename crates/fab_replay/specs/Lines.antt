@@ -1,5 +1,5 @@
 -- The lines of a journal's text, in its two formats, and the place behind those of a journal.
-use Rattle.std.specs.Prelude.{◌≡◌, ◌≢◌, ℕ, ◌+◌, ◌<◌, ◌≤◌, ◌==◌, if◌then◌else◌, List, [], ◌∷◌, ◌++◌, length, take, drop}
+use Rattle.std.specs.Prelude.{◌≡◌, ◌≢◌, ℕ, ◌+◌, ◌<◌, ◌≤◌, ◌==◌, if◌then◌else◌, List, [], ◌∷◌, ◌++◌, length, take, drop, Result, Ok, Err}
 use Rattle.std.specs.Str.{bytes_eq}
 use Rattle.fab_policy.specs.Journal.{Journal}
 use Rattle.fab_policy.specs.Spelling.{Spells}
@@ -81,6 +81,11 @@ unread_by line_error.Memory p = fault.Memory
 abbrev pub behind_by : Line → Place → CheckFault
 behind_by (Tick m ended) p = fault.Line (number_behind p.format p.entries) why.Tick
 behind_by (Frame port index verdict told) p = fault.Line (number_behind p.format p.entries) why.Frame
+
+-- what is read behind the last frame ends a check with this
+abbrev pub end_fault : Result Line CheckFault → Place → CheckFault
+end_fault (Ok line) p = behind_by line p
+end_fault (Err e) p = e
 
 -- a line at a place isn't that of a tick, and this is its fault
 pub record IsOtherTick (p : Place) (l : Line) (moment : ℕ) (ended : List ℕ) (e : CheckFault) : Type 0 where

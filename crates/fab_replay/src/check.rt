@@ -9,7 +9,7 @@ ghost use Rattle.fab_policy.specs.Outputs.{state_of};
 ghost use Rattle.fab_replay.specs.Check.{Checks, Leaves, matter_in, Task, task_of};
 ghost use Rattle.fab_replay.specs.Counts as spec;
 ghost use Rattle.fab_replay.specs.Front.{expects_tick, has_left};
-ghost use Rattle.fab_replay.specs.Lines.{IsInside, IsOfLine, behind_by};
+ghost use Rattle.fab_replay.specs.Lines.{IsInside, IsOfLine, behind_by, end_fault};
 ghost use Rattle.fab_replay.specs.Steps.{IsAlong, IsFound, IsReached, Left, Scene};
 ghost use Rattle.fab_replay.specs.Windows.{Ends, Going, IsOf, stand_at};
 ghost use Rattle.fab_policy.specs.Standing.{Contents};
@@ -172,9 +172,20 @@ fn check_end(alloc: Global, journal: &[u8], place: &Place) -> Result<(), CheckFa
         return Ok(());
     }
     let mut behind = *place;
-    match next_line(alloc, journal, &mut behind) {
-        Ok(line) => Err(line_behind(&line, place)),
-        Err(fault) => Err(fault),
+    let next = next_line(alloc, journal, &mut behind);
+    Err(fault_behind(next, place))
+}
+
+// The fault of what is read behind the last frame: of the line there, or why none is read.
+fn fault_behind(next: Result<Line, CheckFault>, place: &Place) -> CheckFault
+    requires room { place.now.entries + place.now.entries ≤ place.now.at }
+    ensures { result ≡ end_fault next place.now }
+{
+    // For the checker: the fault of a line holds this enum.
+    let _verdicts: &[Verdict] = &[];
+    match next {
+        Ok(line) => line_behind(&line, place),
+        Err(fault) => fault,
     }
 }
 

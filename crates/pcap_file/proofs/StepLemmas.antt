@@ -14,7 +14,7 @@ use Rattle.pcap_file.specs.declared.CaptureHead.{CaptureHead}
 use Rattle.pcap_file.specs.declared.reader.Place.{Place}
 use Rattle.pcap_file.specs.declared.CapError.TheVariants as errors
 use Rattle.pcap_file.specs.Capture.{at_place, milliseconds, stored, Found, next}
-use Rattle.pcap_file.specs.Reading.{Pulls, Collects, RecordRead, supply, Why, Cut, NoBytes, NoFrames, limit_of, error_of, Gives, Stops, step_by, step_of}
+use Rattle.pcap_file.specs.Reading.{Pulls, Collects, RecordRead, supply, Why, Cut, NoBytes, NoFrames, limit_of, error_of, Step, Gives, Stops, AsksMemory, step_by, step_of}
 use Rattle.pcap_file.proofs.NextLemmas.{next_end, next_short, front_long, front_cut, front_whole}
 
 pub leb_not : (a b : ℕ) → leb a b ≡ not (ltb b a)
@@ -33,6 +33,18 @@ module _ (h : CaptureHead) (g at : ℕ) (budget : Budget) (front m : List ℕ) (
         ∙ ap (λ o. step_by o at (Found (max g (milliseconds h front)) (record { bytes = take (stored h front) m; whole = not (nat_lt (stored h front) (at_place h.big front 12 4)) }) (drop (stored h front) m)))
         (ap (limit_of budget.bytes budget.frames) whole ∙ over)
     | inr lt ↦ ap (step_of budget at) (front_cut h g front m sized small lt) ∙ ap (λ o. Stops (error_of (unwrap_or o Cut) at)) over
+  ]
+
+  -- a record within the limits, whether it is whole or not
+  step_asks : limit_of budget.bytes budget.frames (stored h front) ≡ None → AsksMemory (step_of budget at (next h g (front ++ m)))
+  step_asks within = elim (le_or_lt (stored h front) (length m)) [
+    | inl le ↦
+        let whole : length (take (stored h front) m) ≡ stored h front = length-take-le (stored h front) m le in
+        subst AsksMemory
+        (sym (ap (step_of budget at) (front_whole h g front m sized (take (stored h front) m) (drop (stored h front) m) (sym (take-append-drop (stored h front) m)) whole small)
+        ∙ ap (λ o. step_by o at (Found (max g (milliseconds h front)) (record { bytes = take (stored h front) m; whole = not (nat_lt (stored h front) (at_place h.big front 12 4)) }) (drop (stored h front) m)))
+        (ap (limit_of budget.bytes budget.frames) whole ∙ within))) tt
+    | inr lt ↦ subst AsksMemory (sym (ap (step_of budget at) (front_cut h g front m sized small lt) ∙ ap (λ o. Stops (error_of (unwrap_or o Cut) at)) within)) tt
   ]
 
 -- ---- one record, from a buffer for its head and a buffer for its bytes
@@ -89,6 +101,15 @@ module _ (s : ℕ) (a b : Seen) (held rest front : List ℕ) (n : ℕ) (p : Plac
     read_frames room none = record {
       reads = first.reads;
       says = λ told. ap (λ l. step_of budget p.at (next p.head p.greatest l)) (whole_front le told) ∙ step_fails p.head p.greatest p.at budget front (rest ++ b.left s) sized (omega arith) NoFrames (no_frames budget.bytes budget.frames (stored p.head front) (omega arith) none);
+      fits = tt;
+      cause = λ f e. absurd (cc);
+      counts = first.counts;
+    }
+
+    pub read_refused : 16 + len ≤ budget.bytes → budget.frames ≢ 0 → RecordRead s p budget (supply held a) (supply rest b) (Err errors.Memory)
+    read_refused room some = record {
+      reads = first.reads;
+      says = λ told. subst (λ l. AsksMemory (step_of budget p.at (next p.head p.greatest l))) (sym (whole_front le told)) (step_asks p.head p.greatest p.at budget front (rest ++ b.left s) sized (omega arith) (no_limit budget.bytes budget.frames (stored p.head front) (omega arith) (omega arith)));
       fits = tt;
       cause = λ f e. absurd (cc);
       counts = first.counts;

@@ -75,7 +75,13 @@ step_by None at _ = Ends
 abbrev pub step_of : Budget → ℕ → Next → Step
 step_of budget at x = step_by (failure budget.bytes budget.frames x) at x
 
--- what an answer says of that step, where this is still to come afterwards; a depot's fault and want of memory say nothing
+-- Memory is asked for behind these tests alone: the head of a record stands there, and it is within the limits.
+abbrev pub AsksMemory : Step → Type 0
+AsksMemory (Gives moment caught rest) = Unit {0}
+AsksMemory (Stops (errors.Cut at)) = Unit {0}
+AsksMemory _ = ⊥
+
+-- what an answer says of that step, where this is still to come afterwards; a depot's fault says nothing
 abbrev pub Says : Step → List ℕ → Result (Option Record) CapError → Type 0
 Says step rest (Ok (Some r)) = step ≡ Gives r.moment r.caught rest
 Says step rest (Ok None) = (step ≡ Ends) × (rest ≡ [])
@@ -84,7 +90,7 @@ Says step rest (Err (errors.TooLong at len)) = step ≡ Stops (errors.TooLong at
 Says step rest (Err errors.Bytes) = step ≡ Stops errors.Bytes
 Says step rest (Err errors.Frames) = step ≡ Stops errors.Frames
 Says step rest (Err (errors.Read failed)) = Unit {0}
-Says step rest (Err errors.Memory) = Unit {0}
+Says step rest (Err errors.Memory) = AsksMemory step
 
 -- a place behind so many bytes more; places stay at the last number of 64 bits
 abbrev pub place_after : ℕ → ℕ → ℕ

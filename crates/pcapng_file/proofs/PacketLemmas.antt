@@ -16,7 +16,7 @@ use Rattle.pcapng_file.specs.declared.packet.Content.TheVariants as says
 use Rattle.pcapng_file.specs.declared.NgRecord.{NgRecord}
 use Rattle.pcapng_file.specs.Block.{test, first, unless, padded, stored, no_interface, interface_at, timed_tests, record_of, record_in, timed_read, packet_read, packet_tests, kind_tests, content_of, body_read}
 use Rattle.fab_base.proofs.EndingLemmas.{said_so}
-use Rattle.pcapng_file.specs.File.{ng_end, TellsRead, at_fault}
+use Rattle.pcapng_file.specs.File.{AsksLast, ng_end, TellsRead, at_fault}
 
 abbrev ladder : Bool → Option Interface → Bool → List ℕ → Result NgRecord NgWhy
 ladder past face big b = unless (first (test past why.Length ∷ test (is_none face) why.Interface ∷ timed_tests (unwrap_or face no_interface) big b)) (record_of (unwrap_or face no_interface) big b)
@@ -35,6 +35,9 @@ module _ (big : Bool) (faces : List Interface) (b : List ℕ) (fits : nat_lt (le
 
   pub packet_tells : (at : ℕ) (face : Interface) (result : Result NgRecord NgError) → interface_at big faces b ≡ Some face → TellsRead (at_fault at (timed_read face big b)) result → TellsRead (at_fault at (packet_read big faces b)) result
   packet_tells at face result is tells = subst (λ (r : Result NgRecord NgWhy). TellsRead (at_fault at r) result) (sym (packet_of face is)) tells
+
+  pub packet_asks : (face : Interface) (result : Result NgRecord NgError) → interface_at big faces b ≡ Some face → AsksLast (timed_read face big b) result → AsksLast (packet_read big faces b) result
+  packet_asks face result is asks = subst (λ (r : Result NgRecord NgWhy). AsksLast r result) (sym (packet_of face is)) asks
 
   pub packet_none : interface_at big faces b ≡ None → packet_read big faces b ≡ Err why.Interface
   packet_none is = packet_is big faces b ∙ (λ i. ladder (fits i) (is i) big b)
@@ -73,9 +76,19 @@ content_err : (at : ℕ) (x : Result NgRecord NgWhy) (e : NgError) → TellsRead
 content_err at (Ok q) e = said_so (ng_end e) (λ is. absurd (cc))
 content_err at (Err w) e = said_so (ng_end e) (λ is. let same : errors.Fault at w ≡ e = cc in ap (λ (e : NgError). Err e) same)
 
+content_asks : (x : Result NgRecord NgWhy) (e : NgError) → AsksLast {B = NgRecord} x (Err e) → AsksLast {B = Content} (as_content x) (Err e)
+content_asks x (errors.Fault at fault) asks = tt
+content_asks x (errors.Limit limit) asks = tt
+content_asks x (errors.Read failed) asks = tt
+content_asks (Ok r) errors.Memory asks = tt
+content_asks (Err fault) errors.Memory asks = asks
+
 module _ (at : ℕ) (h : Head) (faces : List Interface) (b : List ℕ) (same : at_place h.big b (h.size - 4) 4 ≡ h.size) (kind : h.kind ≡ kinds.Packet) where
   pub body_ok : (r : NgRecord) → TellsRead (at_fault at (packet_read h.big faces b)) (Ok r) → TellsRead (at_fault at (body_read h faces b)) (Ok (says.Packet r))
   body_ok r tells = subst (λ (x : Result Content NgWhy). TellsRead (at_fault at x) (Ok (says.Packet r))) (sym (body_packet h faces b same kind)) (content_ok at (packet_read h.big faces b) r tells)
 
   pub body_err : (e : NgError) → TellsRead {A = NgRecord} (at_fault at (packet_read h.big faces b)) (Err e) → TellsRead {A = Content} (at_fault at (body_read h faces b)) (Err e)
   body_err e tells = subst (λ (x : Result Content NgWhy). TellsRead {A = Content} (at_fault at x) (Err e)) (sym (body_packet h faces b same kind)) (content_err at (packet_read h.big faces b) e tells)
+
+  pub body_asks : (e : NgError) → AsksLast {B = NgRecord} (packet_read h.big faces b) (Err e) → AsksLast {B = Content} (body_read h faces b) (Err e)
+  body_asks e asks = subst (λ (x : Result Content NgWhy). AsksLast {B = Content} x (Err e)) (sym (body_packet h faces b same kind)) (content_asks (packet_read h.big faces b) e asks)

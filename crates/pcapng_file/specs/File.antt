@@ -162,6 +162,14 @@ NotRead (errors.Limit limit) = Unit {0}
 NotRead (errors.Read failed) = ⊥
 NotRead errors.Memory = Unit {0}
 
+-- Memory is asked for behind all tests of a block: want of it comes only where no fault stands there.
+abbrev pub AsksLast : {A B : Type 0} → Result A NgWhy → Result B NgError → Type 0
+AsksLast says (Ok b) = Unit {0}
+AsksLast says (Err (errors.Fault at fault)) = Unit {0}
+AsksLast says (Err (errors.Limit limit)) = Unit {0}
+AsksLast says (Err (errors.Read failed)) = Unit {0}
+AsksLast says (Err errors.Memory) = OnErr says ⊥
+
 -- What reading a file from a slot does. Where the depot tells, the answer is what the bytes say that the slot has left, all
 -- of which are taken then, except that the depot may fail, which its count shows, and memory may be refused. The budget
 -- is lowered on Ok alone.

@@ -2,7 +2,7 @@
 ghost use Rattle.std.specs.Prelude.{◌≡◌, ◌≤◌, ◌<◌, ◌+◌, ◌*◌};
 ghost use Rattle.std.specs.Prelude.{◌/◌, ◌%◌, ◌^◌, length, slice_get, IfOk, IfErr};
 ghost use Rattle.pcapng_file.specs.Block.{least, body_read, packet_read, timed_read, stored};
-ghost use Rattle.pcapng_file.specs.File.{TellsRead, NotRead, IsPacketKept, AreKept};
+ghost use Rattle.pcapng_file.specs.File.{AsksLast, TellsRead, NotRead, IsPacketKept, AreKept};
 ghost use Rattle.pcapng_file.specs.File.{at_fault, found, frames_of};
 
 use crate::NgRecord;
@@ -51,6 +51,7 @@ pub(crate) fn read_block(
     requires least { least head.kind ≤ head.size }
     ensures tells { TellsRead (at_fault at (body_read head faces.now block.now)) result }
     ensures own { IfErr result NotRead }
+    ensures asks { AsksLast (body_read head faces.now block.now) result }
     ensures kept { IfOk result (λ content. AreKept (found content)) }
 {
     let Head { kind, big, size } = head;
@@ -94,6 +95,7 @@ fn read_packet(
     requires { 32 ≤ length block.now }
     ensures tells { TellsRead (at_fault at (packet_read big faces.now block.now)) result }
     ensures own { IfErr result NotRead }
+    ensures asks { AsksLast (packet_read big faces.now block.now) result }
     ensures kept { IfOk result IsPacketKept }
 {
     if block.len() - 32 < padded(number_at(big, block, 20) as usize) {
@@ -127,6 +129,7 @@ fn read_of(
     requires whole { 32 + stored big block.now ≤ length block.now }
     ensures tells { TellsRead (at_fault at (timed_read face big block.now)) result }
     ensures own { IfErr result NotRead }
+    ensures asks { AsksLast (timed_read face big block.now) result }
     ensures kept { IfOk result IsPacketKept }
 {
     if u32::from(face.link) != ETHERNET {

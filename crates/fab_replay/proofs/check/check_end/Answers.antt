@@ -1,26 +1,18 @@
-use Rattle.std.proofs.Common.{◌≡◌, [], drop, refl, sym, subst}
+use Rattle.std.proofs.Common.{sym, subst}
+use Rattle.fab_replay.specs.Lines.{IsOfLine}
 use Rattle.fab_replay.specs.Steps.{IsFound, Left}
-use Rattle.fab_replay.proofs.EndLemmas.{line_behind, text_behind}
-use Rattle.fab_replay.proofs.LineLemmas.{line_as, unread_as}
-use Rattle.fab_replay.proofs.RemainLemmas.{stays_behind, stays_unread}
+use Rattle.fab_replay.proofs.EndLemmas.{end_of_line, fault_behind}
+use Rattle.fab_replay.proofs.RemainLemmas.{stays_at_end}
 use Rattle.fab_replay.proofs.check.check_end.Goals as goal
 
-pub returns-in-Ok-clause-checks : goal.returns-in-Ok-clause-checks
-returns-in-Ok-clause-checks c = λ x J F same none h left unexpected.
-    subst (IsFound x) (sym c.line_behind.ensures)
-    (line_behind x J F c.args.place.now h none left unexpected c.next_line.new.place c.in-Ok.line (line_as same refl c.in-Ok.ensures.line))
+pub returns-clause-checks : goal.returns-clause-checks
+returns-clause-checks c = λ x J F same none h left unexpected.
+    subst (IsFound x) (sym c.fault_behind.ensures)
+    (fault_behind x J F c.args.place.now h none left unexpected c.next_line-next.new.place c.next_line-next.result same c.if-is_end.ensures c.next_line-next.ensures.line c.next_line-next.ensures.unread)
 
-pub returns-in-Err-clause-checks : goal.returns-in-Err-clause-checks
-returns-in-Err-clause-checks c = λ x J F same none h left unexpected.
-    let p = c.args.place.now in
-    text_behind x J F p h none c.in-Err.fault (subst (λ b. drop p.at b ≡ [] → ⊥) (sym same) c.if-is_end.ensures)
-    (unread_as p c.in-Err.fault same c.in-Err.ensures.unread.0)
+pub returns-clause-left : goal.returns-clause-left
+returns-clause-left c = λ x told J F same h unexpected.
+    subst (Left x told F) (sym c.fault_behind.ensures) (stays_at_end x told J F c.args.place.now h c.next_line-next.new.place c.next_line-next.result same unexpected c.next_line-next.ensures.unread)
 
--- ---- what the fabric stands for
-
-pub returns-in-Ok-clause-left : goal.returns-in-Ok-clause-left
-returns-in-Ok-clause-left c = λ x told J F same h unexpected.
-    subst (Left x told F) (sym c.line_behind.ensures) (stays_behind x told J F c.args.place.now h c.in-Ok.line unexpected)
-
-pub returns-in-Err-clause-left : goal.returns-in-Err-clause-left
-returns-in-Err-clause-left c = λ x told J F same h unexpected. stays_unread x told J F c.args.place.now h c.in-Err.fault (unread_as c.args.place.now c.in-Err.fault same c.in-Err.ensures.unread.0)
+pub returns-clause-only : goal.returns-clause-only
+returns-clause-only c = subst IsOfLine (sym c.fault_behind.ensures) (end_of_line c.args.place.now c.next_line-next.result c.next_line-next.ensures.only)

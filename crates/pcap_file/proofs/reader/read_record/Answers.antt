@@ -1,5 +1,5 @@
 use Rattle.std.proofs.Common.{◌≡◌, arith, ap, ◌∙◌, max, ℕ, not, nat_lt, length, vec_len}
-use Rattle.pcap_file.proofs.StepLemmas.{leb_not, read_end, read_short, read_long, read_bytes, read_frames, read_cut, read_given}
+use Rattle.pcap_file.proofs.StepLemmas.{leb_not, read_end, read_short, read_long, read_bytes, read_frames, read_refused, read_cut, read_given}
 use Rattle.pcap_file.proofs.reader.read_record.Goals as goal
 
 pub returns-then-got-eq0 : goal.returns-then-got-eq0
@@ -43,3 +43,8 @@ returns g c =
           c.in-Ok-collect.ensures.collects (omega arith) c.if-budget-eq0.false c.record_of.result (omega (arith, sized, c.len.ensures, c.if-len.false, c.in-Ok-collect.ensures.collects.bound)) c.requires.greatest (omega (arith, c.moment_in.ensures.value, c.moment_in.ensures.range)) (c.record_of.ensures.moment ∙ c.max.ensures ∙ ap (λ (m : ℕ). max m c.args.place.greatest) c.moment_in.ensures.value) c.record_of.ensures.bytes
           (c.record_of.ensures.whole ∙ leb_not c.number_at.result c.number_at-len.result ∙ ap (λ (n : ℕ). not (nat_lt c.number_at-len.result n)) c.number_at.ensures);
     }
+
+pub returns-in_default : goal.returns-in_default
+returns-in_default g c = record {
+  reads = read_refused c.args.slot _ _ _ _ c.pull.new.into c.in-Ok.got c.args.place c.args.budget c.pull.auto.into c.in-Ok.ensures.pulls _ c.number_at-len.ensures (omega arith) (omega arith) (omega arith) c.if-budget-eq0.false;
+}
