@@ -38,7 +38,7 @@ module _ (k : PairNames) (a b : Seen) where
   not_converted : (e : NgError) → Converts k.from k.to LIMITS a b (Err (errors.Input e)) → Uses (Only k.from) (Only k.to) (ng_end e) a b → Holds (Convert k) a b (unconverted_by e)
   not_converted (ng.Fault at fault) c u = (c.0, c.1, u.counts)
   not_converted (ng.Limit limit) c u = (c.0, λ told. (limit, refl, c.1 told), u.counts)
-  not_converted (ng.Read failed) c u = (c.0, inl (rose_only k.from a.read_faults b.read_faults u.counts.0), λ told. tt, u.counts.1)
+  not_converted (ng.Read failed) c u = (c.0, λ told. tt, (inl (rose_only k.from a.read_faults b.read_faults u.counts.0), u.counts.1))
   not_converted ng.Memory c u = ((λ m none. c.0 m), λ told. Same (c.0 k.to), u.counts)
 
   pub input_refused : (e : NgError) (o : Outcome) → o ≡ unconverted_by e → (x : ConvertError) → x ≡ errors.Input e → Converts k.from k.to LIMITS a b (Err x) → Uses (Only k.from) (Only k.to) (converting_end x) a b → Holds (Convert k) a b o
