@@ -1,5 +1,5 @@
 -- How a call ends, and what its ending says of the store.
-use Rattle.std.specs.Prelude.{◌≡◌, ◌≢◌, ℕ, List, ◌⊎◌, Result, Ok, Err, IsErrOf}
+use Rattle.std.specs.Prelude.{◌≡◌, ℕ, List, ◌++◌, ◌⊎◌, Some, Result, Ok, Err}
 use Rattle.fab_base.specs.Seen.{Seen, Touches, Rose, SameReadFaults, SameWriteFaults}
 
 -- ---- how a call ends
@@ -56,20 +56,15 @@ Counts read write Memory old new = NoFaults old new
 abbrev pub CountsRead : List ℕ → End → Seen → Seen → Type 0
 CountsRead name end old new = Counts (Rose (old.read_faults name) (new.read_faults name)) ⊥ end old new
 
--- Every fault of reading is answered, by this fault: none is counted where the answer is another. So want of memory never stands
--- for one.
-abbrev pub TellsReads : {T E : Type 0} → E → Seen → Seen → Result T E → Type 0
-TellsReads read old new result = ¬ IsErrOf result read → SameReadFaults old new
-
--- The same of writing.
-abbrev pub TellsWrites : {T E : Type 0} → E → Seen → Seen → Result T E → Type 0
-TellsWrites write old new result = ¬ IsErrOf result write → SameWriteFaults old new
-
 -- ---- what a call did to the store
 
--- no file changes but this one
-abbrev pub KeepsBut : List ℕ → Seen → Seen → Type 0
-KeepsBut to old new = (m : List ℕ) → m ≢ to → new.file m ≡ old.file m
+-- bytes with which others begin
+abbrev pub IsPrefixOf : List ℕ → List ℕ → Type 0
+IsPrefixOf front whole = (rest : List ℕ) × (front ++ rest ≡ whole)
+
+-- a file is as it was, or holds bytes with which these begin
+abbrev pub IsOldOrFront : Seen → Seen → List ℕ → List ℕ → Type 0
+IsOldOrFront old new name whole = (new.file name ≡ old.file name) ⊎ ((bytes : List ℕ) × (new.file name ≡ Some bytes) × IsPrefixOf bytes whole)
 
 -- one of these names, or of those
 abbrev pub Either : (List ℕ → Type 0) → (List ℕ → Type 0) → List ℕ → Type 0

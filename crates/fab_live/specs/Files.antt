@@ -1,9 +1,8 @@
 -- The files of a forwarder that runs, and what writing to them keeps and leaves.
 use Rattle.std.specs.Prelude.{◌≡◌, ◌≢◌, ℕ, ◌<◌, ◌⊎◌, IsTrue, List, ◌++◌, length, Some, Result, OnOk}
 use Rattle.fab_base.specs.Ending as ending
-use Rattle.fab_base.specs.Ending.{End, end_by, Counts, RoseIn}
+use Rattle.fab_base.specs.Ending.{End, end_by, Counts, RoseIn, IsPrefixOf}
 use Rattle.fab_base.specs.Seen.{Seen, Touches}
-use Rattle.fab_policy.specs.Written.{IsPrefixOf}
 use Rattle.fab_base.specs.Slots.{name_of, NameIn}
 use Rattle.run_files.specs.Outputs.{AreOutputs}
 use Rattle.run_files.specs.Pages.{piece_at}

@@ -14,10 +14,6 @@ use Rattle.fab_policy.specs.Steps.{InPool}
 abbrev pub egresses : Settings → ℕ → Journal → List (List ℕ)
 egresses c n J = map (λ p. egress c n p J) (counting 1 n)
 
--- bytes with which others begin
-abbrev pub IsPrefixOf : List ℕ → List ℕ → Type 0
-IsPrefixOf front whole = (rest : List ℕ) × (front ++ rest ≡ whole)
-
 -- the records of each port in windows that start before a moment
 abbrev pub before : Settings → ℕ → List (List Record) → List (List Record)
 before c t ins = map (λ records. filter (λ r. nat_lt (window_start c r.moment) t) records) ins

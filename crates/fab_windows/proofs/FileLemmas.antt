@@ -2,10 +2,10 @@
 use Rattle.std.proofs.Common.{◌≡◌, ℕ, ◌<◌, inl, inr, List, [], ◌++◌, length, take, drop, Option, Some, Ok, Err, IsTrue, refl, sym, ap, ◌∙◌, subst, arith, append_assoc}
 use Rattle.std.specs.Prelude.{Result}
 use Rattle.std.proofs.lemmas.List.{append-nil, take-append-drop}
+use Rattle.fab_base.specs.Ending.{IsPrefixOf}
 use Rattle.fab_base.specs.Seen.{Seen, Rose, PutsAll, Touches, Only}
 use Rattle.fab_base.specs.declared.values.Failed.{Failed}
 use Rattle.fab_base.proofs.SeenLemmas.{rose_later, touches_trans, touches_wider, keeps_touches}
-use Rattle.fab_policy.specs.Written.{IsPrefixOf}
 use Rattle.fab_base.specs.Slots.{name_of, NameIn}
 use Rattle.run_files.specs.Outputs.{AreOutputs, FailsAt, PutsEach}
 use Rattle.run_files.specs.Pages.{piece_at}

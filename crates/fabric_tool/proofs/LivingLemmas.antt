@@ -2,7 +2,7 @@
 use Rattle.std.proofs.Common.{◌≡◌, ℕ, zero, suc, ◌+◌, ◌-◌, ◌<◌, ◌≤◌, ◌^◌, ◌*◌, List, [], ◌∷◌, ◌++◌, ◌⊎◌, Bool, true, false, length, Some, Ok, Err, IsTrue, refl, sym, ap, ◌∙◌, subst, arith, inl, inr}
 use Rattle.std.specs.Prelude.{Result, String, map, get_or, max, ◌==◌}
 use Rattle.std.specs.declared.alloc.Global.{Global}
-use Rattle.fab_base.specs.Ending.{NoFaults}
+use Rattle.fab_base.specs.Ending.{NoFaults, IsPrefixOf}
 use Rattle.fab_base.specs.Places.{name_at}
 use Rattle.fab_base.specs.Seen.{Seen, SameFiles, Reads, Touches, OpensIn, Rose}
 use Rattle.fab_base.specs.declared.values.Failed.{Failed}
@@ -21,7 +21,6 @@ use Rattle.fab_base.specs.Counting.{counting}
 use Rattle.fab_policy.specs.Outputs.{state_of}
 use Rattle.fab_policy.specs.Standing.{Contents}
 use Rattle.fab_policy.specs.Text.{text, egress}
-use Rattle.fab_policy.specs.Written.{IsPrefixOf}
 use Rattle.fab_policy.proofs.NamedLemmas.{text_names_journal}
 use Rattle.fab_base.specs.Slots.{name_of, NameIn}
 use Rattle.pcap_file.specs.declared.fault.LimitKind.TheVariants as kinds

@@ -2,7 +2,7 @@
 use Rattle.std.proofs.Common.{◌≡◌, ℕ, zero, suc, ◌+◌, ◌-◌, ◌*◌, ◌<◌, ◌≤◌, List, [], ◌∷◌, ◌⊎◌, length, true, Some, Ok, Err, IsTrue, refl, sym, ap, ◌∙◌, subst, arith, inl, inr}
 use Rattle.std.specs.Prelude.{Result, String, Vec, map, get_or}
 use Rattle.std.specs.declared.alloc.Global.{Global}
-use Rattle.fab_base.specs.Ending.{NoFaults, SparesReads}
+use Rattle.fab_base.specs.Ending.{NoFaults, SparesReads, IsPrefixOf}
 use Rattle.fab_base.specs.Seen.{Seen, SameFiles, Touches, Nothing, Only, SameReadFaults, SameWriteFaults}
 use Rattle.fab_base.proofs.SeenLemmas.{touches_trans, touches_wider, reads_touches}
 use Rattle.fab_config.specs.Settings.{Settings, is_in_range}
@@ -15,7 +15,7 @@ use Rattle.fab_gather.specs.Looks.{Opened, stop, kept, all_records}
 use Rattle.fab_policy.specs.Outputs.{state_of}
 use Rattle.fab_policy.specs.Standing.{Contents}
 use Rattle.fab_policy.specs.Text.{text, egress}
-use Rattle.fab_policy.specs.Written.{before, IsPrefixOf}
+use Rattle.fab_policy.specs.Written.{before}
 use Rattle.fab_policy.proofs.NamedLemmas.{text_names_journal}
 use Rattle.fab_gather.specs.First.{opened_in, start_at}
 use Rattle.fab_base.specs.Slots.{name_of, NameIn}

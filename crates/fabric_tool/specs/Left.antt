@@ -22,7 +22,8 @@ use Rattle.fab_policy.specs.declared.verdict.Verdict.TheVariants.{Granted}
 use Rattle.run_files.specs.declared.fault.RunFault.{RunFault}
 use Rattle.fab_windows.specs.Files.{GoesOn, InOrder, captures, text_so_far, captures_so_far, file_bytes}
 use Rattle.fab_windows.specs.Run.{IsRunOver}
-pub use Rattle.snoop_run.specs.Bridged.{IsOldOrFront, AreOldOrFront}
+pub use Rattle.fab_base.specs.Ending.{IsOldOrFront}
+pub use Rattle.snoop_run.specs.Bridged.{AreOldOrFront}
 use Rattle.fabric_tool.specs.Command.{RunNames}
 use Rattle.run_files.specs.Names.{Among, AnyRose}
 use Rattle.fabric_tool.specs.Inputs.{AreCaptures, HasInputs, IsHeadUnread, StopsBy, stop_of, kept_of}

@@ -1,8 +1,7 @@
 -- How the reading of captures ends early.
-use Rattle.std.specs.Prelude.{ℕ, Result}
+use Rattle.std.specs.Prelude.{ℕ}
 use Rattle.fab_base.specs.Ending as ending
 use Rattle.fab_base.specs.Ending.{End, IsSaid}
-use Rattle.fab_base.specs.Seen.{Seen}
 use Rattle.pcap_file.specs.declared.CapError.{CapError}
 use Rattle.pcap_file.specs.declared.CapError.TheVariants as errors
 use Rattle.pcap_file.specs.declared.CapFault.{CapFault}
@@ -60,7 +59,3 @@ gather_end fault.Memory = ending.Memory
 -- an ending that stands in the captures, and not in the store or in the memory
 abbrev pub IsStopped : GatherFault → Type 0
 IsStopped fault = IsSaid (gather_end fault)
-
--- Every fault of reading is told: none is counted where the answer isn't `Read`. So want of memory never stands for one.
-abbrev pub TellsReads : {T : Type 0} → Seen → Seen → Result T GatherFault → Type 0
-TellsReads old new result = ending.TellsReads fault.Read old new result

@@ -4,11 +4,10 @@ use Rattle.std.specs.Prelude.{Result, Vec, replicate, slice_set}
 use Rattle.std.specs.declared.alloc.Global.{Global}
 use Rattle.std.proofs.lemmas.List.{take-append-drop}
 use Rattle.std.proofs.lemmas.Option.{slice_get-get_or}
-use Rattle.fab_base.specs.Ending.{Said, Write, end_by, Either, Uses}
+use Rattle.fab_base.specs.Ending.{Said, Write, end_by, Either, Uses, IsPrefixOf}
 use Rattle.fab_base.specs.Seen.{Seen, Nothing}
 use Rattle.fab_base.specs.declared.values.Failed.{Failed}
 use Rattle.fab_base.proofs.EndingLemmas.{uses_none, uses_refused, uses_then, uses_wider}
-use Rattle.fab_policy.specs.Written.{IsPrefixOf}
 use Rattle.pcap_file.specs.Capture.{head_bytes}
 use Rattle.pcap_file.specs.declared.Record.{Record}
 use Rattle.fab_base.specs.Slots.{name_of, NameIn}

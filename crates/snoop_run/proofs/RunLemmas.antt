@@ -4,13 +4,12 @@ use Rattle.std.specs.Prelude.{String, Result, Vec, map}
 use Rattle.std.specs.Result.{IsErrAnd}
 use Rattle.std.specs.declared.alloc.Global.{Global}
 use Rattle.arrayvec.specs.ArrayVec.{ArrayVec}
-use Rattle.fab_base.specs.Ending.{End, Said, Write, end_by, Uses}
+use Rattle.fab_base.specs.Ending.{End, Said, Write, end_by, Uses, IsPrefixOf, IsOldOrFront}
 use Rattle.fab_base.specs.Seen.{Seen, SameFiles, Nothing}
 use Rattle.fab_base.proofs.EndingLemmas.{uses_none, uses_refused, uses_then, uses_wider}
 use Rattle.fab_base.specs.declared.values.Failed.{Failed}
 use Rattle.fab_config.specs.Settings.{Settings}
 use Rattle.fab_base.specs.Counting.{counting}
-use Rattle.fab_policy.specs.Written.{IsPrefixOf}
 use Rattle.pcap_file.specs.declared.Budget.{Budget}
 use Rattle.pcap_file.specs.declared.Record.{Record}
 use Rattle.fab_base.specs.Slots.{slot_at, name_of, NameIn}
@@ -22,7 +21,7 @@ use Rattle.fip_snoop.specs.Bridge.{Arrival, arrivals, is_too_long}
 use Rattle.fip_snoop.specs.Messages.{forwarder_of}
 use Rattle.fip_snoop.specs.declared.forwarder.Forwarder.{Forwarder}
 use Rattle.snoop_run.specs.Copies.{capture}
-use Rattle.snoop_run.specs.Bridged.{IsOldOrFront, AreOldOrFront, HasFronts, HasStop, Ends, Bridges, OverEnds, RunsOver}
+use Rattle.snoop_run.specs.Bridged.{AreOldOrFront, HasFronts, HasStop, Ends, Bridges, OverEnds, RunsOver}
 use Rattle.run_files.specs.Faults.{fault_from, run_end}
 use Rattle.run_files.proofs.FaultLemmas.{same_end}
 use Rattle.run_files.specs.Names.{Among}

@@ -1,9 +1,8 @@
 -- What a bridge leaves in its outputs, by how it ends.
 use Rattle.std.specs.Prelude.{◌≡◌, ℕ, ◌⊎◌, true, false, IsTrue, List, [], ◌∷◌, length, map, Some, Result, Ok, Err}
-use Rattle.fab_base.specs.Ending.{end_by, Uses}
+use Rattle.fab_base.specs.Ending.{end_by, Uses, IsOldOrFront}
 use Rattle.fab_base.specs.Seen.{Seen, SameFiles, Nothing}
 use Rattle.fab_config.specs.Settings.{Settings}
-use Rattle.fab_policy.specs.Written.{IsPrefixOf}
 use Rattle.pcap_file.specs.declared.Budget.{Budget}
 use Rattle.pcap_file.specs.declared.Record.{Record}
 use Rattle.pcap_file.specs.declared.fault.GatherFault.{GatherFault}
@@ -22,10 +21,7 @@ use Rattle.snoop_run.specs.declared.run.Crossed.{Crossed}
 
 -- ---- files
 
--- a file is as it was, or holds bytes with which these begin
-abbrev pub IsOldOrFront : Seen → Seen → List ℕ → List ℕ → Type 0
-IsOldOrFront old new name whole = (new.file name ≡ old.file name) ⊎ ((bytes : List ℕ) × (new.file name ≡ Some bytes) × IsPrefixOf bytes whole)
-
+-- each of these files is as it was, or holds bytes with which its own begin
 abbrev pub AreOldOrFront : Seen → Seen → List (List ℕ) → List (List ℕ) → Type 0
 AreOldOrFront old new [] [] = Unit {0}
 AreOldOrFront old new [] (whole ∷ wholes) = ⊥

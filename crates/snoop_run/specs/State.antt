@@ -1,9 +1,8 @@
 -- What stands of a bridge between two frames.
 use Rattle.std.specs.Prelude.{◌≡◌, ℕ, ◌+◌, ◌^◌, ◌<◌, ◌≤◌, ◌⊎◌, IsTrue, List, [], ◌∷◌, ◌++◌, length, replicate, slice_index, Some, Result, Ok, IfOk, IfErr, OnOk}
-use Rattle.fab_base.specs.Ending.{end_by, Uses}
+use Rattle.fab_base.specs.Ending.{end_by, Uses, IsPrefixOf}
 use Rattle.fab_base.specs.Seen.{Seen, Nothing}
 use Rattle.fab_base.specs.declared.values.Failed.{Failed}
-use Rattle.fab_policy.specs.Written.{IsPrefixOf}
 use Rattle.pcap_file.specs.Capture.{head_bytes}
 use Rattle.pcap_file.specs.declared.Record.{Record}
 use Rattle.fab_base.specs.Slots.{name_of, NameIn}

@@ -1,6 +1,7 @@
 -- What premises and parts of laws say at single entries, and what they exclude.
 use Rattle.std.specs.Prelude.{◌≡◌, ℕ, ◌==◌, ◌⊎◌, Bool, true, false, List, [], ◌∷◌, length, map, refl}
 use Rattle.std.proofs.Common.{ap, arith}
+use Rattle.fab_base.specs.Ending.{IsPrefixOf}
 use Rattle.fab_base.specs.declared.values.Caught.{Caught}
 use Rattle.fab_config.specs.Settings.{Settings}
 use Rattle.pcap_file.specs.declared.Record.{Record}
@@ -15,7 +16,7 @@ use Rattle.fab_policy.specs.Legal.{HoldsFrames}
 use Rattle.fab_policy.specs.Spelling.{IsClockOf, EndsAscend}
 use Rattle.fab_policy.specs.Standing.{AreFrames}
 use Rattle.fab_policy.specs.Text.{text, text1}
-use Rattle.fab_policy.specs.Written.{IsNamed, IsPrefixOf}
+use Rattle.fab_policy.specs.Written.{IsNamed}
 use Rattle.fab_policy.specs.declared.event.Event.TheVariants.{Tick, Frame}
 use Rattle.fab_policy.specs.declared.verdict.Verdict.TheVariants.{Vlans, Granted, Logout, Registered, Noted}
 use Rattle.worked.specs.Given.{vlan_request}
