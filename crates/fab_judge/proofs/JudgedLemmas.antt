@@ -5,6 +5,9 @@ use Rattle.fab_base.specs.declared.values.Enode.{Enode}
 use Rattle.fab_config.specs.Settings.{Settings}
 use Rattle.fc_frames.specs.Frame as fc
 use Rattle.fip_codec.specs.declared.message.LoginKind.{LoginKind}
+use Rattle.ct_messages.specs.Ct as ct
+use Rattle.ct_messages.specs.Ct.{Ask, Unknown}
+use Rattle.ct_messages.specs.declared.CtFault.{CtFault}
 use Rattle.eth_frames.specs.Ethernet as eth
 use Rattle.fcoe_codec.specs.Fcoe as capsule
 use Rattle.fcoe_codec.specs.declared.FcoeFault.{FcoeFault}
@@ -76,6 +79,10 @@ pub carried_by : BodiesAreCarried → (caught : Caught) (f : eth.Eth) (read : Re
 carried_by law caught f (Ok x) d = (law caught f x d).0
 carried_by law caught f (Err fault) d = tt
 
+-- the request of a payload that was read
+abbrev asked_in : Result Ask CtFault → Ask
+asked_in r = elim r [ Ok ask ↦ ask | Err fault ↦ Unknown 0 ]
+
 -- the values of a judgement of a body
 pub body_values : BodiesAreCarried → (c : Settings) (T : Tables) (x : Enode) (flogi : Bool) (port : ℕ) (caught : Caught) (g : eth.Eth) (b : capsule.Fcoe) → decoded caught ≡ Fcoe g (Ok b) →
     (j : Judged) → Rests c T x flogi b.frame j → HasKind None j → HasValues port caught j
@@ -88,7 +95,8 @@ body_values law c T x flogi port caught g b d (Replied (Rejected login reason ex
 body_values law c T x flogi port caught g b d (Replied (Logout own a) to) rests kind = cc
 body_values law c T x flogi port caught g b d (Replied _ to) rests kind = tt
 body_values law c T x flogi port caught g b d (MayGrant login) rests kind = cc
-body_values law c T x flogi port caught g b d (Registers to) rests kind = (g, b, d)
+body_values law c T x flogi port caught g b d (Registers to ask) rests kind =
+    ((g, b, d), sym (ap asked_in rests.0.read) ∙ ap (λ (f : fc.Frame). asked_in (ct.decoded f.payload)) (sym (law caught g b d).0))
 body_values law c T x flogi port caught g b d (Answers to tell size) rests kind = tt
 
 -- the kind of a login is the one that its frame asks for
@@ -106,5 +114,5 @@ login_values port caught kind l is (Replied (Rejected login reason explanation) 
 login_values port caught kind l is (Replied (Logout own a) to) h = kind_is caught kind own l is h
 login_values port caught kind l is (Replied _ to) h = tt
 login_values port caught kind l is (MayGrant login) h = kind_is caught kind login.kind l is h
-login_values port caught kind l is (Registers to) h = cc
+login_values port caught kind l is (Registers to ask) h = cc
 login_values port caught kind l is (Answers to tell size) h = tt

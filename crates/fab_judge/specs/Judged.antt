@@ -9,6 +9,7 @@ use Rattle.fip_codec.specs.declared.message.LoginKind.{LoginKind}
 use Rattle.fc_frames.specs.Frame as fc
 use Rattle.fc_frames.specs.declared.FcHeader.{FcHeader}
 use Rattle.els_messages.specs.Els as els
+use Rattle.ct_messages.specs.Ask.{view}
 use Rattle.ct_messages.specs.Ct as ct
 use Rattle.ct_messages.specs.CanWrite.{CanTell, CanWrite, HasByte}
 use Rattle.ct_messages.specs.Server.{is_registration, registration_refusal}
@@ -16,7 +17,7 @@ use Rattle.ct_messages.specs.declared.CtTell.{CtTell}
 use Rattle.state_change.specs.Watchers.{is_function}
 use Rattle.fab_policy.specs.Classes.{HasBody, IsRepliedFor, IsSettledFor, of_replied, of_settled}
 use Rattle.fab_policy.specs.Free.{Request, is_free}
-use Rattle.heard_frames.specs.Heard.{sender, is_flogi, carried}
+use Rattle.heard_frames.specs.Heard.{sender, is_flogi, carried, ask_of}
 use Rattle.fab_policy.specs.Queries.{query}
 use Rattle.fab_policy.specs.Replies.{Asker, kind_asked}
 use Rattle.fab_policy.specs.State.{LivePort, Tables, port_at}
@@ -38,7 +39,7 @@ abbrev pub judgement_of : Judged → Judgement
 judgement_of (Must verdict) = policy.Must (of_settled verdict)
 judgement_of (Replied verdict to) = policy.Must (of_replied verdict)
 judgement_of (MayGrant login) = policy.MayGrant login.request
-judgement_of (Registers to) = policy.Must Registered
+judgement_of (Registers to ask) = policy.Must Registered
 judgement_of (Answers to tell size) = policy.Must Answered
 
 -- ---- what a frame's verdict rests on: x is the ENode that sent it, and f the FC frame that it carries
@@ -101,14 +102,14 @@ pub record GrantRests (c : Settings) (T : Tables) (x : Enode) (flogi : Bool) (f 
   pub fresh : list_any (λ q. q.name == login.request.name) (staying c T login.request) ≡ false
   pub room : length (staying c T login.request) < c.limit
 
--- A registration of a live N_Port that isn't refused.
-pub record RegistrationRests (T : Tables) (f : fc.Frame) : Type 0 where
+-- A registration of a live N_Port that isn't refused: this request is the one that the frame has.
+pub record RegistrationRests (T : Tables) (f : fc.Frame) (ask : ct.Ask) : Type 0 where
   pub live : HasSource T f
-  pub read : ct.decoded f.payload ≡ Ok (ask_in f)
-  pub registers : is_registration (ask_in f) ≡ true
-  pub byte : HasByte (ask_in f)
-  pub writes : CanWrite (ask_in f)
-  pub allowed : (b : LivePort) → port_at f.head.s_id T.ports ≡ Some b → registration_refusal b.address b.values.node_name (ask_in f) ≡ None
+  pub read : ct.decoded f.payload ≡ Ok ask
+  pub registers : is_registration ask ≡ true
+  pub byte : HasByte ask
+  pub writes : CanWrite ask
+  pub allowed : (b : LivePort) → port_at f.head.s_id T.ports ≡ Some b → registration_refusal b.address b.values.node_name ask ≡ None
 
 -- The answer to a query of a live N_Port that is logged in to the name server with this receive size.
 pub record AnswerRests (c : Settings) (T : Tables) (f : fc.Frame) (tell : CtTell) (size : ℕ) : Type 0 where
@@ -122,7 +123,7 @@ abbrev pub Rests : Settings → Tables → Enode → Bool → fc.Frame → Judge
 Rests c T x flogi f (Must verdict) = SettledRests T x f verdict
 Rests c T x flogi f (Replied verdict to) = ReplyRests T f verdict × (to ≡ asker_by x.mac f.head)
 Rests c T x flogi f (MayGrant login) = GrantRests c T x flogi f login
-Rests c T x flogi f (Registers to) = RegistrationRests T f × (to ≡ asker_by x.mac f.head)
+Rests c T x flogi f (Registers to ask) = RegistrationRests T f (view ask) × (to ≡ asker_by x.mac f.head)
 Rests c T x flogi f (Answers to tell size) = AnswerRests c T f tell size × (to ≡ asker_by x.mac f.head)
 
 -- ---- the values of the frame
@@ -146,7 +147,7 @@ abbrev pub HasKind : Option LoginKind → Judged → Type 0
 HasKind kind (Must verdict) = SettlesKind kind verdict
 HasKind kind (Replied verdict to) = RepliesKind kind verdict
 HasKind kind (MayGrant login) = kind ≡ Some login.kind
-HasKind kind (Registers to) = kind ≡ None
+HasKind kind (Registers to ask) = kind ≡ None
 HasKind kind (Answers to tell size) = Unit {0}
 
 -- A judgement has the values of a frame that came on a port.
@@ -154,7 +155,7 @@ abbrev pub HasValues : ℕ → Caught → Judged → Type 0
 HasValues port caught (Must verdict) = IsSettledFor port caught verdict
 HasValues port caught (Replied verdict to) = IsRepliedFor caught verdict
 HasValues port caught (MayGrant login) = login.kind ≡ kind_asked caught
-HasValues port caught (Registers to) = HasBody caught
+HasValues port caught (Registers to ask) = HasBody caught × (view ask ≡ ask_of caught)
 HasValues port caught (Answers to tell size) = Unit {0}
 
 -- ---- judgements

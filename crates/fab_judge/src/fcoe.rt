@@ -30,15 +30,15 @@ use std::alloc::Global;
 use zone_rules::Zones;
 
 /// The judgement of a frame on the configured VLAN.
-pub(crate) fn judge_fcoe(
+pub(crate) fn judge_fcoe<'a>(
     alloc: Global,
     config: &Config,
     zones: &Zones,
     roster: &Roster,
     port: PortNo,
     eth: &EthFrame<'_>,
-    body: &FcoeFrame<'_>,
-) -> Result<Judged, NoMemory>
+    body: &FcoeFrame<'a>,
+) -> Result<Judged<'a>, NoMemory>
     requires zones { zones.now ≡ zones_of config.now }
     ensures judged { IfOk result (λ j. judgement_of j ≡ unless_dropped
         (fcoe_rows config.now roster.now.tables port (eth_view eth.now) (fcoe_view body.now))
@@ -58,20 +58,22 @@ pub(crate) fn judge_fcoe(
         return Ok(dropped(Rule::SourceMac));
     }
     let to = asker(&eth.src, &body.frame.head);
-    let judged = judge_sent(alloc, config, zones, roster, port, body, to)?;
-    Ok(judged)
+    match judge_sent(alloc, config, zones, roster, port, body, to) {
+        Ok(judged) => Ok(judged),
+        Err(NoMemory) => Err(NoMemory),
+    }
 }
 
 // The judgement of a frame with the MAC of its S_ID.
-fn judge_sent(
+fn judge_sent<'a>(
     alloc: Global,
     config: &Config,
     zones: &Zones,
     roster: &Roster,
     port: PortNo,
-    body: &FcoeFrame<'_>,
+    body: &FcoeFrame<'a>,
     to: Asker,
-) -> Result<Judged, NoMemory>
+) -> Result<Judged<'a>, NoMemory>
     requires zones { zones.now ≡ zones_of config.now }
     ensures judged { IfOk result (λ j. (f : Eth) → judgement_of j ≡ unless_dropped
         (drop 3 (fcoe_rows config.now roster.now.tables port f (fcoe_view body.now)))
@@ -90,8 +92,10 @@ fn judge_sent(
     if body.frame.head.d_id.value() < SERVICES {
         return Ok(judge_data(config, zones, roster, port, login, body));
     }
-    let judged = judge_request(alloc, config, zones, roster, port, login, body, to)?;
-    Ok(judged)
+    match judge_request(alloc, config, zones, roster, port, login, body, to) {
+        Ok(judged) => Ok(judged),
+        Err(NoMemory) => Err(NoMemory),
+    }
 }
 
 // The judgement of a frame of a live N_Port to an N_Port.
@@ -102,7 +106,7 @@ fn judge_data(
     port: PortNo,
     login: &Login,
     body: &FcoeFrame<'_>,
-) -> Judged
+) -> Judged<'static>
     requires zones { zones.now ≡ zones_of config.now }
     requires live { option_map login_of (port_at body.now.frame.head.s_id roster.now.tables.ports)
         ≡ Some login.now }

@@ -35,7 +35,7 @@ pub(crate) fn judge_fip(
     from: &Sender,
     eth: &EthFrame<'_>,
     message: &FipMessage<'_>,
-) -> Result<Judged, NoMemory>
+) -> Result<Judged<'static>, NoMemory>
     requires { decoded from.now.caught ≡ Fip (eth_view eth.now) (fip_view message.now) }
     ensures judged { IfOk result (λ j. judgement_of j ≡ unless_dropped
         (fip_login_rows config.now roster.now.tables from.now.port from.now.caught
@@ -83,7 +83,7 @@ fn judge_keep(
     from: &Sender,
     mac: &Mac,
     port: &Option<VxPort>,
-) -> Judged
+) -> Judged<'static>
     ensures judged { judgement_of result ≡ unless_dropped
         (fip_login_rows config.now roster.now.tables from.now.port from.now.caught
         (fip.Keep mac.now port.now))

@@ -16,7 +16,7 @@ use crate::fcoe::judge_fcoe;
 use crate::fip::judge_fip;
 use crate::sender::Sender;
 use crate::verdicts::dropped;
-use ct_messages::CtTell;
+use ct_messages::{CtAsk, CtTell};
 use eth_frames::EthFrame;
 use fab_base::{FcId, NoMemory, PortNo, Wwn};
 use fab_config::Config;
@@ -30,15 +30,15 @@ use zone_rules::Zones;
 
 /// What the tables say of a frame, with what a step needs to carry it out.
 #[derive(Debug, Drop)]
-pub enum Judged {
+pub enum Judged<'a> {
     /// This verdict, which has what it takes of the frame.
     Must(Settled),
     /// This verdict, which is replied to the sender of the frame.
     Replied { verdict: Replied, to: Asker },
     /// A login to which any free address may be granted.
     MayGrant(Candidate),
-    /// A registration that isn't refused: `registered`. The request is read again from the frame.
-    Registers { to: Asker },
+    /// A registration that isn't refused, with its request: `registered`.
+    Registers { to: Asker, ask: CtAsk<'a> },
     /// A query that isn't refused, with its answer, and the receive size at which it is cut:
     /// `answered`.
     Answers { to: Asker, tell: CtTell, size: u16 },
@@ -64,14 +64,14 @@ pub struct Candidate {
 
 /// The judgement of a frame that comes on a port, over who is live. The zones are those of the
 /// configuration. Memory is taken where a query is answered, and for the logins that a FLOGI ends.
-pub fn judge(
+pub fn judge<'a>(
     alloc: Global,
     config: &Config,
     zones: &Zones,
     roster: &Roster,
     port: PortNo,
-    heard: &Heard<'_>,
-) -> Result<Judged, NoMemory>
+    heard: &Heard<'a>,
+) -> Result<Judged<'a>, NoMemory>
     requires zones { zones.now ≡ zones_of config.now }
     ensures judged { IfOk result (λ j. judgement_of j
         ≡ judged config.now roster.now.tables port heard.now.caught.now) }
@@ -92,22 +92,24 @@ pub fn judge(
             Ok(judged)
         }
         What::Fcoe { eth, read } => {
-            let judged = judge_body(alloc, config, zones, roster, port, eth, read)?;
-            Ok(judged)
+            match judge_body(alloc, config, zones, roster, port, eth, read) {
+                Ok(judged) => Ok(judged),
+                Err(NoMemory) => Err(NoMemory),
+            }
         }
     }
 }
 
 // The judgement of a body of FCoE on the configured VLAN.
-fn judge_body(
+fn judge_body<'a>(
     alloc: Global,
     config: &Config,
     zones: &Zones,
     roster: &Roster,
     port: PortNo,
     eth: &EthFrame<'_>,
-    read: &Result<FcoeFrame<'_>, FcoeFault>,
-) -> Result<Judged, NoMemory>
+    read: &Result<FcoeFrame<'a>, FcoeFault>,
+) -> Result<Judged<'a>, NoMemory>
     requires zones { zones.now ≡ zones_of config.now }
     ensures judged { IfOk result (λ j. judgement_of j ≡ body_judged
         config.now roster.now.tables port (eth_view eth.now) (read_view read.now)) }
@@ -122,15 +124,17 @@ fn judge_body(
         Ok(body) => {
             // Law: what a decoded frame says is what a journal reads from its bytes.
             frames_are_carried();
-            let judged = judge_fcoe(alloc, config, zones, roster, port, eth, body)?;
-            Ok(judged)
+            match judge_fcoe(alloc, config, zones, roster, port, eth, body) {
+                Ok(judged) => Ok(judged),
+                Err(NoMemory) => Err(NoMemory),
+            }
         }
         Err(fault) => Ok(dropped_for(*fault)),
     }
 }
 
 // A body is dropped for its fault.
-fn dropped_for(fault: FcoeFault) -> Judged
+fn dropped_for(fault: FcoeFault) -> Judged<'static>
     ensures { result ≡ Judged.Must (Settled.Dropped (rule_of fault)) }
 {
     dropped(match fault {

@@ -54,7 +54,7 @@ pub(crate) fn judge_login(
     from: &Sender,
     asked: &LoginAsk,
     frame: &[u8],
-) -> Result<Judged, NoMemory>
+) -> Result<Judged<'static>, NoMemory>
     ensures judged { IfOk result (λ j. let message
         = fip.Login asked.now.kind asked.now.fp frame.now asked.now.mac in
         judgement_of j ≡ unless_dropped ((rules.is_unreadable message, plain Rule.ElsShort)
@@ -88,7 +88,7 @@ fn judge_command(
     asked: &LoginAsk,
     frame: &FcFrame<'_>,
     els: &Els<'_>,
-) -> Result<Judged, NoMemory>
+) -> Result<Judged<'static>, NoMemory>
     requires value { els_spec.payload_of frame.now.payload.now ≡ els_spec.view els.now }
     requires grammar { els_spec.IsEls (els_spec.view els.now) frame.now.payload.now }
     ensures judged { IfOk result (λ j. judgement_of j ≡ verdicts.frame_judged config.now
@@ -122,7 +122,7 @@ fn judge_request(
     asked: &LoginAsk,
     parms: &LoginParms,
     to: Asker,
-) -> Result<Judged, NoMemory>
+) -> Result<Judged<'static>, NoMemory>
     ensures judged { IfOk result (λ j. judgement_of j ≡ verdicts.login_judged config.now
         roster.now.tables from.now.port from.now.caught asked.now.fp asked.now.kind parms.now) }
     ensures grounds { IfOk result (λ j. (f : Frame) → els_spec.parms_of f.payload ≡ parms.now
@@ -146,7 +146,7 @@ fn judge_asked(
     request: Request,
     parms: &LoginParms,
     to: Asker,
-) -> Result<Judged, NoMemory>
+) -> Result<Judged<'static>, NoMemory>
     ensures judged { IfOk result (λ j. judgement_of j ≡ verdicts.unless_refused
         (verdicts.login_rows config.now roster.now.tables from.now.port from.now.caught
         asked.now.fp request parms.now) (verdicts.MayGrant request)) }
@@ -286,7 +286,7 @@ fn judge_logout(
     address: FcId,
     name: Wwn,
     to: Asker,
-) -> Judged
+) -> Judged<'static>
     ensures judged { judgement_of result ≡ verdicts.unless_refused
         ((
           not (rules.holds (verdicts.is_own_logout config.now roster.now.tables from.now.port

@@ -1,8 +1,7 @@
 //! Requests to the name server (FC-GS-6, "Name Server").
-ghost use Rattle.std.specs.Prelude.{◌≡◌, true, Some, Ok};
-ghost use Rattle.std.specs.Prelude.{IfOk, IsSome, option_map};
+ghost use Rattle.std.specs.Prelude.{◌≡◌, false, Some, None, Ok};
+ghost use Rattle.std.specs.Prelude.{IfOk, IfSome, IsSome, option_map};
 ghost use Rattle.ct_messages.specs.Ask.{view};
-ghost use Rattle.ct_messages.specs.CanWrite.{CanWrite, HasByte};
 ghost use Rattle.ct_messages.specs.Ct as ct;
 ghost use Rattle.ct_messages.specs.Server as server;
 ghost use Rattle.fab_config.specs.Settings.{Settings};
@@ -30,15 +29,15 @@ use std::alloc::Global;
 use zone_rules::Zones;
 
 /// The judgement of a request of a live N_Port.
-pub(crate) fn judge_ask(
+pub(crate) fn judge_ask<'a>(
     alloc: Global,
     config: &Config,
     zones: &Zones,
     roster: &Roster,
     login: &Login,
-    frame: &FcFrame<'_>,
+    frame: &FcFrame<'a>,
     to: Asker,
-) -> Result<Judged, NoMemory>
+) -> Result<Judged<'a>, NoMemory>
     requires zones { zones.now ≡ zones_of config.now }
     requires live { option_map login_of (port_at frame.now.head.s_id roster.now.tables.ports)
         ≡ Some login.now }
@@ -50,15 +49,21 @@ pub(crate) fn judge_ask(
     };
     match read_ask(frame.payload) {
         Ok(ask) => {
-            let judged = judge_read(alloc, config, zones, roster, frame, &ask, to, size)?;
-            Ok(judged)
+            if !ask.is_registration() {
+                let judged = judge_query(alloc, config, zones, roster, frame, &ask, to, size)?;
+                return Ok(judged);
+            }
+            match judge_refusal(roster, frame, &ask, to) {
+                Some(refused) => Ok(refused),
+                None => Ok(Judged::Registers { to, ask }),
+            }
         }
         Err(fault) => Ok(refused_for(to, fault)),
     }
 }
 
-// The judgement of a request that was read, of an N_Port with this receive size.
-fn judge_read(
+// The judgement of a query that was read, of an N_Port with this receive size.
+fn judge_query(
     alloc: Global,
     config: &Config,
     zones: &Zones,
@@ -67,20 +72,16 @@ fn judge_read(
     ask: &CtAsk<'_>,
     to: Asker,
     size: u16,
-) -> Result<Judged, NoMemory>
+) -> Result<Judged<'static>, NoMemory>
     requires zones { zones.now ≡ zones_of config.now }
     requires live { IsSome (port_at frame.now.head.s_id roster.now.tables.ports) }
     requires server { (p : LivePort)
         → port_at frame.now.head.s_id roster.now.tables.ports ≡ Some p → p.server ≡ Some size }
     requires read { ct.decoded frame.now.payload.now ≡ Ok (view ask.now) }
-    requires writes { server.is_registration (view ask.now) ≡ true → CanWrite (view ask.now) }
-    requires byte { HasByte (view ask.now) }
+    requires query { server.is_registration (view ask.now) ≡ false }
     ensures { IfOk result (IsAskJudged config.now roster.now.tables (fc_view frame.now) to
         (λ p. verdicts.ct_judged config.now roster.now.tables p frame.now.payload.now)) }
 {
-    if ask.is_registration() {
-        return Ok(judge_registration(roster, frame, ask, to));
-    }
     // Law: the answer to a query is never a reject, so none stands behind a judged Answered.
     a_query_is_no_reject();
     match roster.answer(alloc, config, zones, frame.head.s_id, ask) {
@@ -89,17 +90,21 @@ fn judge_read(
     }
 }
 
-// The judgement of a registration.
-fn judge_registration(roster: &Roster, frame: &FcFrame<'_>, ask: &CtAsk<'_>, to: Asker) -> Judged
-    requires live { IsSome (port_at frame.now.head.s_id roster.now.tables.ports) }
-    requires read { ct.decoded frame.now.payload.now ≡ Ok (view ask.now) }
-    requires registration { server.is_registration (view ask.now) ≡ true }
-    requires writes { CanWrite (view ask.now) }
-    requires byte { HasByte (view ask.now) }
-    ensures { (c : Settings) → IsAskJudged c roster.now.tables (fc_view frame.now) to
-        (λ p. unless_refusal
+// The judgement of a registration that is refused, none of any other.
+fn judge_refusal(
+    roster: &Roster,
+    frame: &FcFrame<'_>,
+    ask: &CtAsk<'_>,
+    to: Asker,
+) -> Option<Judged<'static>>
+    requires { IsSome (port_at frame.now.head.s_id roster.now.tables.ports) }
+    ensures some { IfSome result (λ j. (c : Settings)
+        → IsAskJudged c roster.now.tables (fc_view frame.now) to (λ p. unless_refusal
         (server.registration_refusal p.address p.values.node_name (view ask.now))
-        (verdicts.Must Registered)) result }
+        (verdicts.Must Registered)) j) }
+    ensures none { result ≡ None → (p : LivePort)
+        → port_at frame.now.head.s_id roster.now.tables.ports ≡ Some p
+        → server.registration_refusal p.address p.values.node_name (view ask.now) ≡ None }
 {
     match roster.refusal(frame.head.s_id, ask) {
         Some(
@@ -107,13 +112,13 @@ fn judge_registration(roster: &Roster, frame: &FcFrame<'_>, ask: &CtAsk<'_>, to:
                 reason,
                 explanation,
             },
-        ) => refused(to, reason, explanation),
-        None => Judged::Registers { to },
+        ) => Some(refused(to, reason, explanation)),
+        None => None,
     }
 }
 
 // A request is refused: reason and explanation.
-fn refused(to: Asker, reason: u8, explanation: u8) -> Judged
+fn refused(to: Asker, reason: u8, explanation: u8) -> Judged<'static>
     ensures { result ≡ Judged.Replied (Replied.Refused reason explanation) to }
 {
     let verdict = Replied::Refused(reason, explanation);
@@ -121,7 +126,7 @@ fn refused(to: Asker, reason: u8, explanation: u8) -> Judged
 }
 
 // A request that can't be read is refused for its fault.
-fn refused_for(to: Asker, fault: CtFault) -> Judged
+fn refused_for(to: Asker, fault: CtFault) -> Judged<'static>
     ensures { let why = fault_refusal fault in
         result ≡ Judged.Replied (Replied.Refused why.0 why.1) to }
 {
@@ -132,7 +137,7 @@ fn refused_for(to: Asker, fault: CtFault) -> Judged
 }
 
 // A query is answered, or refused where its answer says so.
-fn answered(to: Asker, tell: CtTell, size: u16) -> Judged
+fn answered(to: Asker, tell: CtTell, size: u16) -> Judged<'static>
     ensures { result ≡ told_as to size tell }
 {
     match tell {

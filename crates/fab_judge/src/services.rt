@@ -42,16 +42,16 @@ use zone_rules::Zones;
 const LEAST_SIZE: u16 = 256;
 
 /// The judgement of a frame of a live N_Port to a service.
-pub(crate) fn judge_request(
+pub(crate) fn judge_request<'a>(
     alloc: Global,
     config: &Config,
     zones: &Zones,
     roster: &Roster,
     port: PortNo,
     login: &Login,
-    body: &FcoeFrame<'_>,
+    body: &FcoeFrame<'a>,
     to: Asker,
-) -> Result<Judged, NoMemory>
+) -> Result<Judged<'a>, NoMemory>
     requires zones { zones.now ≡ zones_of config.now }
     requires live { option_map login_of (port_at body.now.frame.head.s_id roster.now.tables.ports)
         ≡ Some login.now }
@@ -80,12 +80,14 @@ pub(crate) fn judge_request(
     if frame.payload.len() < PREAMBLE {
         return Ok(dropped(Rule::CtShort));
     }
-    let judged = judge_ask(alloc, config, zones, roster, login, frame, to)?;
-    Ok(judged)
+    match judge_ask(alloc, config, zones, roster, login, frame, to) {
+        Ok(judged) => Ok(judged),
+        Err(NoMemory) => Err(NoMemory),
+    }
 }
 
 // The judgement of a request of extended link services of a live N_Port to a service.
-fn judge_service(login: &Login, frame: &FcFrame<'_>, to: Asker) -> Judged
+fn judge_service(login: &Login, frame: &FcFrame<'_>, to: Asker) -> Judged<'static>
     requires { rules.is_els_request (fc_view frame.now) ≡ true }
     ensures judged { (c : Settings) (T : Tables) (p : LivePort) → login_of p ≡ login.now
         → judgement_of result
@@ -109,7 +111,7 @@ fn judge_service(login: &Login, frame: &FcFrame<'_>, to: Asker) -> Judged
 }
 
 // The judgement of a link service to the name server.
-fn to_name_server(login: &Login, els: &Els<'_>, to: Asker) -> Judged
+fn to_name_server(login: &Login, els: &Els<'_>, to: Asker) -> Judged<'static>
     ensures judged { (c : Settings) (T : Tables) (p : LivePort) (f : Frame) → login_of p ≡ login.now
         → (f.head.d_id == rules.NAME_SERVER) ≡ true → spec.payload_of f.payload ≡ spec.view els.now
         → judgement_of result ≡ verdicts.els_judged c T p f }
@@ -129,7 +131,7 @@ fn to_name_server(login: &Login, els: &Els<'_>, to: Asker) -> Judged
 }
 
 // The judgement of a login to the name server.
-fn judge_server_login(login: &Login, parms: &LoginParms, to: Asker) -> Judged
+fn judge_server_login(login: &Login, parms: &LoginParms, to: Asker) -> Judged<'static>
     ensures judged { judgement_of result ≡ unless_refused
         ((not (spec.offers_class3 parms.now), (0x0b, 0))
         ∷ (not (parms.now.port_name == login.now.name) || nat_lt parms.now.size 256, (3, 0)) ∷ [])
@@ -150,7 +152,7 @@ fn judge_server_login(login: &Login, parms: &LoginParms, to: Asker) -> Judged
 }
 
 // The judgement of a link service to the fabric controller.
-fn to_controller(els: &Els<'_>, to: Asker) -> Judged
+fn to_controller(els: &Els<'_>, to: Asker) -> Judged<'static>
     ensures judged { (c : Settings) (T : Tables) (p : LivePort) (f : Frame)
         → (f.head.d_id == rules.NAME_SERVER) ≡ false
         → spec.payload_of f.payload ≡ spec.view els.now
@@ -166,7 +168,7 @@ fn to_controller(els: &Els<'_>, to: Asker) -> Judged
 }
 
 // The judgement of a registration for state changes.
-fn judge_watch(function: u8, to: Asker) -> Judged
+fn judge_watch(function: u8, to: Asker) -> Judged<'static>
     ensures judged { judgement_of result ≡ unless_refused
         ((not (verdicts.is_function function), (3, 0)) ∷ [])
         (verdicts.Must (Watching function)) }

@@ -3,15 +3,12 @@
 
 ghost use Rattle.std.specs.Prelude.{◌≡◌, ◌<◌, ◌==◌, length, IsSome, IsTrue, false};
 ghost use Rattle.std.specs.List.{list_any};
-ghost use Rattle.ct_messages.specs.Ask.{view};
 ghost use Rattle.fab_judge.specs.Judged.{ended_by};
 ghost use Rattle.fab_judge.specs.declared.judging.Judged.TheVariants as judged;
 ghost use Rattle.fab_policy.specs.Classes.{of_replied, of_settled};
 ghost use Rattle.fab_policy.specs.Free.{is_free};
-ghost use Rattle.heard_frames.specs.Heard.{ask_of};
 ghost use Rattle.fab_policy.specs.declared.verdict.Verdict.TheVariants.{Granted, Registered};
 ghost use Rattle.fab_roster.specs.Changes.{IsSoundRoll};
-ghost use Rattle.forward_core.specs.Arrived.{caught_of};
 ghost use Rattle.forward_core.specs.Carrying.{Asks, CarriesOut, WasJudged, left_to};
 
 use crate::arrived::Arrived;
@@ -66,8 +63,8 @@ pub(crate) fn carry_out_reply(
 /// A live N_Port registers what its frame asks for.
 pub(crate) fn register(roster: &mut Roster, arrived: &Arrived<'_>, to: Asker, ask: &CtAsk<'_>)
     requires sound { IsSoundRoll roster.old }
-    requires judged { WasJudged roster.old.tables arrived.now (judged.Registers to) Registered }
-    requires ask { view ask.now ≡ ask_of (caught_of arrived.now) }
+    requires judged { WasJudged roster.old.tables arrived.now (judged.Registers to ask.now)
+        Registered }
     ensures { CarriesOut arrived.now Registered roster.old roster.new }
 {
     // Law: tables that change as a verdict says are the tables after its entry.

@@ -9,7 +9,6 @@ mod fabric;
 mod granted;
 mod granting;
 mod keeping;
-mod payload;
 mod reading;
 mod step;
 mod tick;

@@ -80,7 +80,9 @@ impl Fabric {
         // Law: with an entry that is right by its tables a fabric represents the longer journal,
         // which is legal if the one before was; the clause journal says so.
         fabric_steps();
-        let judged = judge(alloc, &self.config, &self.zones, &self.roster, port, heard)?;
+        let Ok(judged) = judge(alloc, &self.config, &self.zones, &self.roster, port, heard) else {
+            return Err(StepFault::Memory);
+        };
         let arrived = Arrived { port, index, heard };
         match judged {
             Judged::Must(verdict) => {
@@ -96,8 +98,8 @@ impl Fabric {
                 self.log_in(alloc, &arrived, &login, address)?;
                 Ok(Verdict::Granted(address))
             }
-            Judged::Registers { to } => {
-                self.register(alloc, &arrived, to)?;
+            Judged::Registers { to, ask } => {
+                self.register(alloc, &arrived, to, &ask)?;
                 Ok(Verdict::Registered)
             }
             Judged::Answers { to, tell, size } => {

@@ -12,8 +12,7 @@ ghost use Rattle.forward_core.specs.Turns.{IsJudged, TakesOrStays};
 use crate::Fabric;
 use crate::arrived::Arrived;
 use crate::carrying::{carry_out, carry_out_reply, grant, register};
-use crate::payload::payload_of;
-use ct_messages::{CtTell, read_ask};
+use ct_messages::{CtAsk, CtTell};
 use fab_base::{FcId, NoMemory};
 use fab_judge::Candidate;
 use fab_policy::{Asker, Replied, Settled, Verdict, tables_change};
@@ -96,17 +95,15 @@ impl Fabric {
         alloc: Global,
         arrived: &Arrived<'_>,
         to: Asker,
+        ask: &CtAsk<'_>,
     ) -> Result<(), NoMemory>
         requires { IsJudged self.old.settings self.old.state.tables arrived.now
-            (judged.Registers to) Registered }
+            (judged.Registers to ask.now) Registered }
         ensures { TakesOrStays self.old arrived.now Registered result self.new }
     {
-        let Ok(ask) = read_ask(payload_of(arrived.heard)) else {
-            unreachable!()
-        };
-        let sends = registration_sends(alloc, &self.before(), arrived.port, to, &ask)?;
+        let sends = registration_sends(alloc, &self.before(), arrived.port, to, ask)?;
         self.keep_frame(alloc, arrived, Verdict::Registered, sends)?;
-        register(&mut self.roster, arrived, to, &ask);
+        register(&mut self.roster, arrived, to, ask);
         Ok(())
     }
 

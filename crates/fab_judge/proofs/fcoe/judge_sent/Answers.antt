@@ -22,10 +22,10 @@ returns-then-value-lt-SERVICES-clause-judged c = λ f.
       service,
     ))
 
-pub returns-clause-judged : goal.returns-clause-judged
-returns-clause-judged c = λ f.
+pub returns-in-Ok-clause-judged : goal.returns-in-Ok-clause-judged
+returns-in-Ok-clause-judged c = λ f.
     let from = port_at c.args.body.now.frame.head.s_id c.args.roster.now.tables.ports in
-    c.in_ok-judged.ensures.judged f
+    c.in-Ok.ensures.judged f
     ∙ sym (rw (
       there login_of from c.in-Some.login.now (sym c.in-Some.ensures),
       is_here from c.in-Some.login.now c.args.port (sym c.in-Some.ensures) (not-false _ (sym c.ne.ensures ∙ c.if-ne.false)),

@@ -28,21 +28,21 @@ returns-in_ok-judged-in-Fip-clause-judged c =
     ∙ ap (λ o. unless_dropped (fip_login_rows C T o.port o.caught m) (fip_judged C T o.port o.caught m)) c.of-from.ensures
     ∙ sym (judged_fip C T c.args.port c.args.heard.now.caught.now (eth.view c.in-Fip.eth) m is none)
 
-pub returns-in_ok-judged-in-Fcoe-clause-judged : goal.returns-in_ok-judged-in-Fcoe-clause-judged
-returns-in_ok-judged-in-Fcoe-clause-judged c =
+pub returns-in-Ok-clause-judged : goal.returns-in-Ok-clause-judged
+returns-in-Ok-clause-judged c =
     let C = c.args.config.now in
     let T = c.args.roster.now.tables in
     let f = eth.view c.in-Fcoe.eth in
     let read = read_view c.in-Fcoe.read in
     let is = sym c.args.heard.now.decoded ∙ ap view c.in-Fcoe.is in
     let none = ap (frame_rule C) (sym is) ∙ (sym c.frame_rule.ensures ∙ c.in_default.is) in
-    rw (judged_fcoe C T c.args.port c.args.heard.now.caught.now f read is none) c.in_ok-judged-in-Fcoe.ensures.judged
+    rw (judged_fcoe C T c.args.port c.args.heard.now.caught.now f read is none) c.in-Ok.ensures.judged
 
-pub returns-in_ok-judged-in-Fcoe-clause-grounds : goal.returns-in_ok-judged-in-Fcoe-clause-grounds
-returns-in_ok-judged-in-Fcoe-clause-grounds c =
+pub returns-in-Ok-clause-grounds : goal.returns-in-Ok-clause-grounds
+returns-in-Ok-clause-grounds c =
     let caught = c.args.heard.now.caught.now in
     let f = eth.view c.in-Fcoe.eth in
     let read = read_view c.in-Fcoe.read in
     let is = sym c.args.heard.now.decoded ∙ ap view c.in-Fcoe.is in
-    c.in_ok-judged-in-Fcoe.ensures.grounds (sender c.args.port caught) (is_flogi caught) (carried caught) (c.frames_are_carried.ensures.source.1 caught f read is)
+    c.in-Ok.ensures.grounds (sender c.args.port caught) (is_flogi caught) (carried caught) (c.frames_are_carried.ensures.source.1 caught f read is)
     (carried_by c.frames_are_carried.ensures.body caught f read is)

@@ -5,12 +5,7 @@ use Rattle.fab_policy.specs.Queries.{known_to}
 use Rattle.fab_judge.specs.Judged.{judgement_of}
 use Rattle.fab_judge.specs.Told.{told_as}
 use Rattle.fab_judge.proofs.AskLemmas.{told, told_kind}
-use Rattle.fab_judge.proofs.names.judge_read.Goals as goal
-
-pub returns-then-is_registration : goal.returns-then-is_registration
-returns-then-is_registration c =
-    let judged = c.judge_registration.ensures c.args.config.now in
-    record { judged = λ p live. let says = judged.judged p live in let at = c.requires.server p live in search rules; grounds = judged.grounds; kind = judged.kind }
+use Rattle.fab_judge.proofs.names.judge_query.Goals as goal
 
 pub returns-in-Ok : goal.returns-in-Ok
 returns-in-Ok c = record {
