@@ -180,14 +180,10 @@ impl Roll {
     fn judge(&self, alloc: Global, line: &[u8], out: &mut Vec<u8>) -> Result<(), CaseFault> {
         let port = port(line, 2)?;
         let caught = caught(alloc, line, 3)?;
-        let judged = judge(
-            alloc,
-            &self.config,
-            &self.zones,
-            &self.roster,
-            port,
-            &hear(&caught),
-        )?;
+        let heard = hear(&caught);
+        let Ok(judged) = judge(alloc, &self.config, &self.zones, &self.roster, port, &heard) else {
+            return Err(CaseFault::Memory);
+        };
         said_judged(alloc, port, &judged, out)
     }
 
@@ -248,7 +244,7 @@ fn said_heard(out: &mut Vec<u8>, heard: Option<(Moment, Moment)>) -> Result<(), 
 fn said_judged(
     alloc: Global,
     port: PortNo,
-    judged: &Judged,
+    judged: &Judged<'_>,
     out: &mut Vec<u8>,
 ) -> Result<(), CaseFault> {
     let verdict = match judged {
