@@ -65,8 +65,8 @@ pub no_number_above : (w : List ℕ) (m most : ℕ) → (m < 2 ^ 64) × (w ≡ d
 no_number_above w m most is large n number = let same = other_number w m is n (omega (arith, number.0, large, is.0)) number.1 in omega (arith, same, number.0, large)
 
 -- the port of a number
-pub port_found : (w : List ℕ) (m : ℕ) (r : Option ℕ) → (m ≤ 64) × (w ≡ decimal m) → Finds (λ p. (1 ≤ p) × (p ≤ 64) × (p ≡ m)) r → Finds (λ p. (1 ≤ p) × (p ≤ 64) × (w ≡ decimal p)) r
-port_found w m None is none = λ p port. none p (port.0, port.1, other_number w m (omega (arith, is.0), is.1) p (omega (arith, port.1)) port.2)
+pub port_found : (w : List ℕ) (m : ℕ) (r : Option ℕ) → (m < 2 ^ 64) × (w ≡ decimal m) → Finds (λ p. (1 ≤ p) × (p ≤ 64) × (p ≡ m)) r → Finds (λ p. (1 ≤ p) × (p ≤ 64) × (w ≡ decimal p)) r
+port_found w m None is none = λ p port. none p (port.0, port.1, other_number w m is p (omega (arith, port.1)) port.2)
 port_found w m (Some p) is some = (some.0, some.1, is.1 ∙ ap decimal (sym some.2))
 
 -- ---- where a word ends

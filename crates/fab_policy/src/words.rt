@@ -103,17 +103,20 @@ pub(crate) fn number_up_to(word: &[u8], most: u64) -> Option<u64>
 pub(crate) fn read_port(word: &[u8]) -> Option<PortNo>
     ensures { Finds (λ p. (1 ≤ p) × (p ≤ 64) × (word.now ≡ decimal p)) result }
 {
-    match number_up_to(word, 64) {
+    match read_number(word) {
         Some(number) => port_of(number),
         None => None,
     }
 }
 
+// The port of a number.
 fn port_of(number: u64) -> Option<PortNo>
-    requires { number ≤ 64 }
     ensures { Finds (λ p. (1 ≤ p) × (p ≤ 64) × (p ≡ number)) result }
 {
-    PortNo::new(number as u32)
+    match u32::try_from(number) {
+        Ok(number) => PortNo::new(number),
+        Err(_) => None,
+    }
 }
 
 /// The address that a word spells.
