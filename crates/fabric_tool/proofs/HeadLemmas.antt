@@ -251,6 +251,6 @@ module _ (names : List (List ℕ)) (a b : Seen) (ins : List Input) (had left : B
     heads = subst (AreHeads a b names) (sym is) h.heads;
     taken = (h.bytes, h.frames);
     ended = tt;
-    counts = λ no. h.reads;
+    counts = h.reads;
     writes = h.writes;
   }
