@@ -1,7 +1,7 @@
 //! The frames of a window.
-ghost use Rattle.std.specs.Prelude.{◌≡◌, IfOk, length, nat_lt};
-ghost use Rattle.std.specs.List.{filter};
+ghost use Rattle.std.specs.Prelude.{◌≡◌, IfOk, length};
 ghost use Rattle.fab_shared.specs.Handled.{CanTake, HandledShelves};
+ghost use Rattle.fab_shared.specs.Sizes.{busy_on, goes_by_workers};
 
 use crate::SharedFabric;
 use crate::crew::by_workers;
@@ -31,7 +31,7 @@ pub fn take_frames<R: Threads + Wait + Sync, G: Gate + Sync>(
     requires { CanTake fabric shelves.now }
     ensures handled { IfOk result (λ f. HandledShelves shelves.now fabric f) }
 {
-    if busy(shelves) > 1 && (G::HOLDS || lacking(shelves, WORTH_WORKERS) == 0) {
+    if by_crew(shelves, G::HOLDS) {
         match SharedFabric::open(alloc, fabric) {
             Ok((shared, root)) => by_workers(rt, alloc, shared, root, shelves, gate),
             Err(_) => Err(NoMemory),
@@ -43,9 +43,16 @@ pub fn take_frames<R: Threads + Wait + Sync, G: Gate + Sync>(
     }
 }
 
+// Whether a window goes by workers, under a gate that may hold one or that holds nobody.
+fn by_crew(shelves: &[Shelf], holds: bool) -> bool
+    ensures { result ≡ goes_by_workers holds shelves.now }
+{
+    busy(shelves) > 1 && (holds || lacking(shelves, WORTH_WORKERS) == 0)
+}
+
 // How many ports have a record on their shelf.
 fn busy(shelves: &[Shelf]) -> usize
-    ensures { result ≡ length (filter (λ s. nat_lt 0 (length s.batch.items)) shelves.now) }
+    ensures { result ≡ length (busy_on shelves.now) }
 {
     shelves
         .iter()
