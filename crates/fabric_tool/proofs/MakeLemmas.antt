@@ -26,7 +26,7 @@ use Rattle.run_files.proofs.NameLemmas.{among_counted, counted_among, rose_among
 use Rattle.fabric_tool.proofs.GivenLemmas.{IsOut, output_named, outputs_count}
 use Rattle.fabric_tool.proofs.NameLemmas.{and_true, words_differ, name_counted}
 use Rattle.fabric_tool.proofs.TouchLemmas.{own_then, own_wider, own_written}
-use Rattle.run_files.proofs.OpenLemmas.{OpenedSoFar, opened_more, opened_failed}
+use Rattle.run_files.proofs.OpenLemmas.{OpenedSoFar, opened_more, opened_failed, up_to_rose}
 
 -- ---- the words
 
@@ -155,7 +155,7 @@ not_opened number words a b e o = (
     | inl same ↦ inl same
     | inr empty ↦ inr ([], empty, (file_text number q, refl))
   ],
-  (o.cause, o.opens.reads),
+  (up_to_rose (files_of words) a b o.cause, o.opens.reads),
 )
 
 -- a number and slots as they were handed on
