@@ -1,5 +1,7 @@
 //! Windows are read as they come, and words that are no command open nothing: a store that counts
 //! what is opened and fetched.
+ghost use Rattle.std.specs.Prelude.{◌≡◌};
+
 use crate::inputs::{CONFIG, HEAD, SOLICITATION, put_record, words_in};
 use fab_base::{Depot, Failed, MemDepot, MemSink, OpenGate};
 use fabric_tool::fabric_tool;
@@ -50,7 +52,9 @@ impl Depot for Counter {
     }
 }
 
-fn counted(depot: MemDepot) -> Counter {
+fn counted(depot: MemDepot) -> Counter
+    ensures { result.depot ≡ depot }
+{
     Counter {
         depot,
         opened: 0,
