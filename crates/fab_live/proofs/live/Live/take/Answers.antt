@@ -76,14 +76,14 @@ returns-then-is_too_late-clause-takes g c = λ k packets J R.
 -- ---- counts of faults
 
 pub returns-in_err-drained-clause-faults : goal.returns-in_err-drained-clause-faults
-returns-in_err-drained-clause-faults g c = counts_on (slots_of c.args.files.now) _ _ c.from_residual.result fault.Memory c.from_residual.ensures.1 (none_yet (g.D.Depot.seen c.args.depot.now))
+returns-in_err-drained-clause-faults g c = counts_on (slots_of c.args.files.now) (g.D.Depot.seen c.args.depot.now) (g.D.Depot.seen c.args.depot.now) c.from_residual.result fault.Memory c.from_residual.ensures.1 (none_yet (g.D.Depot.seen c.args.depot.now))
 
 pub returns-in_err-record-clause-faults : goal.returns-in_err-record-clause-faults
-returns-in_err-record-clause-faults g c = counts_on (slots_of c.args.files.now) _ _ c.from_residual-in_err-record.result fault.Memory c.from_residual-in_err-record.ensures.1 (none_yet (g.D.Depot.seen c.args.depot.now))
+returns-in_err-record-clause-faults g c = counts_on (slots_of c.args.files.now) (g.D.Depot.seen c.args.depot.now) (g.D.Depot.seen c.args.depot.now) c.from_residual-in_err-record.result fault.Memory c.from_residual-in_err-record.ensures.1 (none_yet (g.D.Depot.seen c.args.depot.now))
 
 pub returns-in_err-add-clause-faults : goal.returns-in_err-add-clause-faults
-returns-in_err-add-clause-faults g c = counts_on (slots_of c.args.files.now) _ _ c.from_residual-in_err-add.result fault.Memory c.from_residual-in_err-add.ensures.1 (none_yet (g.D.Depot.seen c.args.depot.now))
+returns-in_err-add-clause-faults g c = counts_on (slots_of c.args.files.now) (g.D.Depot.seen c.args.depot.now) (g.D.Depot.seen c.args.depot.now) c.from_residual-in_err-add.result fault.Memory c.from_residual-in_err-add.ensures.1 (none_yet (g.D.Depot.seen c.args.depot.now))
 
 pub returns-in_err-write_packet-clause-faults : goal.returns-in_err-write_packet-clause-faults
 returns-in_err-write_packet-clause-faults g c =
-    counts_on (slots_of c.args.files.now) _ _ c.from_residual-in_err-write_packet.result c.in_err-write_packet.field-0.0 c.from_residual-in_err-write_packet.ensures.1 c.in_err-write_packet.ensures.writes.counts
+    counts_on (slots_of c.args.files.now) (g.D.Depot.seen c.args.depot.now) (g.D.Depot.seen c.write_packet.new.depot) c.from_residual-in_err-write_packet.result c.in_err-write_packet.field-0.0 c.from_residual-in_err-write_packet.ensures.1 c.in_err-write_packet.ensures.writes.counts
