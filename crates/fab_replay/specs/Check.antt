@@ -1,6 +1,7 @@
 -- What the check of a journal answers: all of it is right, or what is the first fault.
 use Rattle.std.specs.Prelude.{◌≡◌, ℕ, ◌+◌, ◌<◌, Bool, IsTrue, List, ◌++◌, length, Some, None, Result, Ok, Err, IsErrOf}
 use Rattle.std.specs.List.{All}
+use Rattle.fab_base.specs.Ending.{WhereSaid}
 use Rattle.fab_base.specs.Seen.{Seen, Touches, Nothing}
 use Rattle.fab_config.specs.Settings.{Settings}
 use Rattle.pcap_file.specs.declared.Budget.{Budget}
@@ -20,6 +21,7 @@ use Rattle.fab_base.specs.Slots.{slot_at, NameIn}
 use Rattle.fab_gather.specs.Ports.{slots_of}
 use Rattle.fab_gather.specs.Reads.{IsWhole}
 use Rattle.fab_replay.specs.AllOutputs.{IsFirst, OneRose}
+use Rattle.fab_replay.specs.Counts.{check_end}
 use Rattle.fab_replay.specs.Front.{AreRightLines, IsFirstWrong}
 use Rattle.fab_replay.specs.Remains.{Remains}
 use Rattle.fab_replay.specs.declared.fault.CheckFault.{CheckFault}
@@ -125,9 +127,7 @@ pub record IsAccepted (c : Settings) (budget : Budget) (m : Matter) (F : Content
 -- What the check of a journal says where the depot tells.
 abbrev pub Says : Settings → Budget → Matter → Contents → Result ℕ CheckFault → Type 0
 Says c budget m F (Ok entries) = IsAccepted c budget m F entries
-Says c budget m F (Err fault.Read) = Unit {0}
-Says c budget m F (Err fault.Memory) = Unit {0}
-Says c budget m F r = IsAnswer c budget m r
+Says c budget m F (Err e) = WhereSaid (check_end e) (IsAnswer c budget m (Err e))
 
 -- The check of a journal: it changes no file, and it ends by a fault of reading only where a count of a capture or of an output
 -- rose.

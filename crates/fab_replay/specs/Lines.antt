@@ -65,11 +65,12 @@ pub record IsLineAt (bytes : List ℕ) (p q : Place) (l : Line) : Type 0 where
   pub inside : IsInside bytes q
   pub onward : p.at < q.at
 
--- Why no line is read at a place: the text ends there, or what stands there is no line's one spelling; or memory was refused.
+-- Why no line is read at a place: the text ends there, or what stands there is no line's one spelling; or memory was refused, of which
+-- only a line asks.
 abbrev pub IsUnread : List ℕ → Place → CheckFault → Type 0
 IsUnread bytes p (fault.Line n why.Rest) = (n ≡ number_behind p.format p.entries) × (drop p.at bytes ≡ [])
 IsUnread bytes p (fault.Line n why.Text) = (n ≡ number_behind p.format p.entries) × (drop p.at bytes ≢ []) × ((l : Line) → Spells p.format (first_line (drop p.at bytes)) l → ⊥)
-IsUnread bytes p fault.Memory = Unit {0}
+IsUnread bytes p fault.Memory = drop p.at bytes ≢ []
 IsUnread bytes p _ = ⊥
 
 -- what a line at a place ends a check with that couldn't be read

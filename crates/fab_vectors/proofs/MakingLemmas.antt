@@ -4,11 +4,12 @@ use Rattle.std.specs.Prelude.{Result, slice_index}
 use Rattle.std.proofs.lemmas.List.{append-nil}
 use Rattle.fab_base.specs.Ending.{Said, end_by, Uses}
 use Rattle.fab_base.specs.Seen.{Seen, Nothing, Only}
+use Rattle.fab_base.specs.Slots.{name_of}
 use Rattle.fab_base.proofs.EndingLemmas.{uses_none, uses_refused, uses_then, uses_wider}
 use Rattle.pcap_file.proofs.lemmas.Numbers.{le_or_lt}
 use Rattle.fab_vectors.specs.Files.{AddsTo, Adds, HoldsFront, make_end}
 use Rattle.fab_vectors.specs.Load.{capture}
-use Rattle.fab_vectors.specs.Making.{AreNine, IsNamed, Makes, file_text, frame_count, name_at}
+use Rattle.fab_vectors.specs.Making.{AreNine, IsNamed, Makes, file_text, frame_count}
 use Rattle.fab_vectors.specs.declared.MakeFault.{MakeFault}
 use Rattle.fab_vectors.specs.declared.MakeFault.TheVariants as fault
 
@@ -37,8 +38,8 @@ made_nothing number slots a nine = record {
 -- What stands before the file of a place: those before it are whole, and the others are as they were.
 pub record Made (number : ℕ) (slots : List ℕ) (k total : ℕ) (a b : Seen) : Type 0 where
   pub uses : Uses Nothing (IsNamed a slots) Said a b
-  pub done : IsTrue a.told → (q : ℕ) → q < k → q < 9 → b.file (name_at a slots q) ≡ Some (file_text number q)
-  pub rest : (q : ℕ) → k ≤ q → q < 9 → b.file (name_at a slots q) ≡ a.file (name_at a slots q)
+  pub done : IsTrue a.told → (q : ℕ) → q < k → q < 9 → b.file (name_of a slots q) ≡ Some (file_text number q)
+  pub rest : (q : ℕ) → k ≤ q → q < 9 → b.file (name_of a slots q) ≡ a.file (name_of a slots q)
   pub count : total ≡ 2500 * (k - 1)
 
 pub made_none : (number : ℕ) (slots : List ℕ) (a : Seen) → Made number slots 0 0 a a
@@ -62,7 +63,7 @@ module _ (number : ℕ) (slots : List ℕ) (k total : ℕ) (a b d : Seen) (nine 
   s = slice_index slots k
 
   abbrev name : List ℕ
-  name = name_at a slots k
+  name = name_of a slots k
 
   pub output_on : IsTrue (b.output s)
   output_on = subst IsTrue (sym (m.uses.touches.slots s (inr (nine.outputs k lt))).output) (nine.outputs k lt)
@@ -70,7 +71,7 @@ module _ (number : ℕ) (slots : List ℕ) (k total : ℕ) (a b d : Seen) (nine 
   told_on : IsTrue a.told → IsTrue b.told
   told_on told = subst IsTrue (sym m.uses.touches.told) told
 
-  differs : (q : ℕ) → q < 9 → q ≢ k → name_at a slots q ≢ name
+  differs : (q : ℕ) → q < 9 → q ≢ k → name_of a slots q ≢ name
   differs q less ne e = ne (nine.differ q k less lt e)
 
   empty : IsTrue a.told → b.file name ≡ Some []
@@ -85,8 +86,8 @@ module _ (number : ℕ) (slots : List ℕ) (k total : ℕ) (a b d : Seen) (nine 
         uses_then Nothing (IsNamed a slots) (end_by make_end r) a b d m.uses
         (uses_wider Nothing (Only name) Nothing (IsNamed a slots) (λ x none. none) (λ x e. (k, lt, e)) (end_by make_end r) b d own.uses)
 
-    others : (q : ℕ) → q ≢ k → q < 9 → d.file (name_at a slots q) ≡ b.file (name_at a slots q)
-    others q ne less = own.uses.touches.files (name_at a slots q) (differs q less ne)
+    others : (q : ℕ) → q ≢ k → q < 9 → d.file (name_of a slots q) ≡ b.file (name_of a slots q)
+    others q ne less = own.uses.touches.files (name_of a slots q) (differs q less ne)
 
   pub made_more : (n : ℕ) → n ≡ frame_count k → Adds {T = ℕ} s (file_text number k) b d (Ok n) → Made number slots (k + 1) (total + n) a d
   made_more n n_is p = record {
@@ -94,7 +95,7 @@ module _ (number : ℕ) (slots : List ℕ) (k total : ℕ) (a b d : Seen) (nine 
     done = λ told q less within. elim (le_or_lt k q) [
       | inl last ↦
           let same : k ≡ q = omega arith in
-          subst (λ (x : ℕ). d.file (name_at a slots x) ≡ Some (file_text number x)) same ((own (Ok n) p).whole (told_on told) [] (empty told))
+          subst (λ (x : ℕ). d.file (name_of a slots x) ≡ Some (file_text number x)) same ((own (Ok n) p).whole (told_on told) [] (empty told))
       | inr more ↦ others (Ok n) p q (λ e. omega arith) within ∙ m.done told q more within
     ];
     rest = λ q le within. others (Ok n) p q (λ e. omega arith) within ∙ m.rest q (omega arith) within;
@@ -114,7 +115,7 @@ module _ (number : ℕ) (slots : List ℕ) (k total : ℕ) (a b d : Seen) (nine 
         | inl behind ↦ ([], file_text number q, others (Err e) p q (λ e. omega arith) less ∙ m.rest q (omega arith) less ∙ nine.empty told q less, refl)
         | inr mine ↦
             let same : k ≡ q = omega arith in
-            subst (λ (x : ℕ). HoldsFront d (name_at a slots x) [] (file_text number x)) same ((own (Err e) p).front (told_on told) [] (empty told))
+            subst (λ (x : ℕ). HoldsFront d (name_of a slots x) [] (file_text number x)) same ((own (Err e) p).front (told_on told) [] (empty told))
       ]
       | inr more ↦ (file_text number q, [], others (Err e) p q (λ e. omega arith) less ∙ m.done told q more less, append-nil (file_text number q))
     ];
