@@ -62,9 +62,13 @@ CountsRead name end old new = Counts (Rose (old.read_faults name) (new.read_faul
 abbrev pub IsPrefixOf : List ℕ → List ℕ → Type 0
 IsPrefixOf front whole = (rest : List ℕ) × (front ++ rest ≡ whole)
 
--- a file is as it was, or holds bytes with which these begin
+-- a file holds bytes with which these begin
+abbrev pub HoldsSome : Seen → List ℕ → List ℕ → Type 0
+HoldsSome d name whole = (bytes : List ℕ) × (d.file name ≡ Some bytes) × IsPrefixOf bytes whole
+
+-- a file is as it was, or holds such bytes
 abbrev pub IsOldOrFront : Seen → Seen → List ℕ → List ℕ → Type 0
-IsOldOrFront old new name whole = (new.file name ≡ old.file name) ⊎ ((bytes : List ℕ) × (new.file name ≡ Some bytes) × IsPrefixOf bytes whole)
+IsOldOrFront old new name whole = (new.file name ≡ old.file name) ⊎ HoldsSome new name whole
 
 -- one of these names, or of those
 abbrev pub Either : (List ℕ → Type 0) → (List ℕ → Type 0) → List ℕ → Type 0

@@ -1,7 +1,7 @@
 -- The files of a forwarder that runs, and what writing to them keeps and leaves.
 use Rattle.std.specs.Prelude.{◌≡◌, ◌≢◌, ℕ, ◌<◌, ◌⊎◌, IsTrue, List, ◌++◌, length, Some, Result, OnOk}
 use Rattle.fab_base.specs.Ending as ending
-use Rattle.fab_base.specs.Ending.{End, end_by, Counts, RoseIn, IsPrefixOf}
+use Rattle.fab_base.specs.Ending.{End, end_by, Counts, RoseIn, HoldsSome}
 use Rattle.fab_base.specs.Seen.{Seen, Touches}
 use Rattle.fab_base.specs.Slots.{name_of, NameIn}
 use Rattle.run_files.specs.Outputs.{AreOutputs}
@@ -36,7 +36,7 @@ Came d ins bytes = (q : ℕ) → q < length ins → d.file (name_of d ins q) ≡
 
 -- They hold beginnings of these.
 abbrev pub CameSome : Seen → List ℕ → (ℕ → List ℕ) → Type 0
-CameSome d ins bytes = (q : ℕ) → q < length ins → (l : List ℕ) × (d.file (name_of d ins q) ≡ Some l) × IsPrefixOf l (bytes q)
+CameSome d ins bytes = (q : ℕ) → q < length ins → HoldsSome d (name_of d ins q) (bytes q)
 
 -- Bytes of each port, of which one port's grew by a piece.
 pub record GrowsAt (place : ℕ) (piece : List ℕ) (old new : ℕ → List ℕ) : Type 0 where

@@ -1,6 +1,6 @@
 -- What stands of a bridge between two frames.
 use Rattle.std.specs.Prelude.{◌≡◌, ℕ, ◌+◌, ◌^◌, ◌<◌, ◌≤◌, ◌⊎◌, IsTrue, List, [], ◌∷◌, ◌++◌, length, replicate, slice_index, Some, Result, Ok, IfOk, IfErr, OnOk}
-use Rattle.fab_base.specs.Ending.{end_by, Uses, IsPrefixOf}
+use Rattle.fab_base.specs.Ending.{end_by, Uses, HoldsSome}
 use Rattle.fab_base.specs.Seen.{Seen, Nothing}
 use Rattle.fab_base.specs.declared.values.Failed.{Failed}
 use Rattle.pcap_file.specs.Capture.{head_bytes}
@@ -84,7 +84,7 @@ WritesFull outs old new a b result = Writes outs old new a b result ⊎ ((new �
 pub record Crosses (w : Forwarder) (ins : List (List Record)) (outs : List ℕ) (old new : Seen) (result : Result Crossed RunFault) : Type 0 where
   pub uses : Uses Nothing (NameIn old outs) (end_by run_end result) old new
   pub whole : IsTrue old.told → (q : ℕ) → q < length outs → IfOk result (λ done. new.file (name_of old outs q) ≡ Some (capture w (q + 1) (arrivals ins)))
-  pub front : IsTrue old.told → (q : ℕ) → q < length outs → (bytes : List ℕ) × (new.file (name_of old outs q) ≡ Some bytes) × IsPrefixOf bytes (capture w (q + 1) (arrivals ins))
+  pub front : IsTrue old.told → (q : ℕ) → q < length outs → HoldsSome new (name_of old outs q) (capture w (q + 1) (arrivals ins))
   pub passed_ : IfOk result (λ done. done.passed ≡ passed (history w [] (arrivals ins)))
   pub dropped_ : IfOk result (λ done. done.dropped ≡ dropped (history w [] (arrivals ins)))
   pub cause : IfErr result (λ e. (e ≡ faults.Memory) ⊎ (e ≡ faults.Write))
