@@ -56,6 +56,11 @@ abbrev pub IsFirstPair : List Spot → Option (ℕ × ℕ) → Type 0
 IsFirstPair spots None = (i : ℕ) → IsAlone spots i (length spots)
 IsFirstPair spots (Some pair) = IsNextOne spots pair.0 (Some pair.1) × ((i : ℕ) → i < pair.0 → IsAlone spots i (length spots))
 
+-- a name leads to the regular file that is the standard output
+abbrev pub IsPrinted : Mix → Type 0
+IsPrinted (mix.Printed i) = Unit {0}
+IsPrinted other = ⊥
+
 -- no name before this place leads to the standard output, whether that is a regular file or a stream
 abbrev pub NonePrinted : List Spot → Spot → ℕ → Type 0
 NonePrinted spots printed end =

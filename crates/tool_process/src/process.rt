@@ -3,11 +3,13 @@ ghost use Rattle.std.specs.Prelude.{◌≡◌, ◌≢◌, ◌≤◌, ◌⊎◌, 
 ghost use Rattle.std.specs.declared.io.ErrorKind.TheVariants.{OutOfMemory};
 ghost use Rattle.fabric_tool.specs.Command.{AllKnown};
 ghost use Rattle.fabric_tool.specs.Ends.{Ends};
+ghost use Rattle.tool_process.specs.Edge.{KnowsAll, untold};
+ghost use Rattle.tool_process.specs.Same.{IsPrinted};
 
 use crate::edge::{FileDepot, StdSink};
-use crate::same::{Mix, standard_output};
+use crate::same::standard_output;
 use crate::streams::hold_closed;
-use crate::telling::{tell, tell_mix};
+use crate::telling::tell;
 use fab_base::{Depot, NoMemory, OpenGate, Sink};
 use fabric_tool::{Outcome, fabric_tool, report};
 use std::alloc::{AllocGlobal, Global};
@@ -42,14 +44,30 @@ where
         Ok(depot) => depot,
         Err(NoMemory) => return report(alloc, Outcome::Memory, &mut say),
     };
-    if matches!(depot.mix(), Mix::Printed(_)) {
-        // a line would be printed into a file that stands among the words
-        tell_mix(rt, &words, depot.mix());
-        return WRITE_FAULT;
-    }
-    let status = status_of_process(rt, alloc, &words, &mut depot, &mut say);
+    let status = status_over(rt, alloc, &words, &mut depot, &mut say);
     tell(rt, &words, &depot, status);
     status
+}
+
+// Runs the command that words are over real files, and answers its status. Where a name leads to
+// the file that is the standard output nothing is done: the line would be printed into it.
+fn status_over<R: Threads + Wait + Sync + Files, K: Sink>(
+    rt: &R,
+    alloc: Global,
+    words: &[String],
+    depot: &mut FileDepot<'_, R>,
+    say: &mut K,
+) -> u8
+    requires { KnowsAll depot.old.desk words.now }
+    ensures printed { IsPrinted depot.old.mix → (result ≡ 4) × (depot.new ≡ depot.old)
+        × (K.sunk say.new ≡ K.sunk say.old) }
+    ensures ends { ¬ IsPrinted depot.old.mix → Ends words.now (untold depot.old.desk)
+        (untold depot.new.desk) (K.sunk say.old) (K.sunk say.new) result }
+{
+    if depot.mix().is_printed() {
+        return WRITE_FAULT;
+    }
+    status_of_process(rt, alloc, words, depot, say)
 }
 
 /// The words behind the program's name. A command line that isn't UTF-8 is no command, and memory

@@ -50,8 +50,20 @@ pub(crate) enum Mix {
 }
 
 impl Mix {
-    ghost use Rattle.std.specs.Prelude.{◌≡◌, false};
+    ghost use Rattle.std.specs.Prelude.{◌≡◌, true, false};
+    ghost use Rattle.tool_process.specs.Same.{IsPrinted};
     ghost use Rattle.tool_process.specs.declared.same.Mix.TheVariants.{Apart};
+
+    /// Whether a name leads to the regular file that is the standard output.
+    pub(crate) fn is_printed(self) -> bool
+        ensures printed { result ≡ true → IsPrinted self }
+        ensures other { result ≡ false → ¬ IsPrinted self }
+    {
+        match self {
+            Mix::Printed(_) => true,
+            Mix::Apart | Mix::Two(..) | Mix::Piped(_) => false,
+        }
+    }
 
     /// Whether two names lead to one place.
     pub(crate) fn is_mixed(self) -> bool

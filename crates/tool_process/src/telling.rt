@@ -6,7 +6,7 @@ ghost use Rattle.std.specs.Prelude.{◌<◌, length};
 use crate::edge::FileDepot;
 use crate::same::Mix;
 use crate::trouble::Trouble;
-use fab_base::word_at;
+use fab_base::{MOST_PORTS, word_at};
 use std::alloc::{AllocGlobal, Global};
 use std::io::Eprint;
 use std::rt::Files;
@@ -44,8 +44,8 @@ pub(crate) fn tell<R: Files + Eprint + AllocGlobal>(
     }
 }
 
-/// Says which names are one file, or the standard output.
-pub(crate) fn tell_mix<R: Eprint>(rt: &R, words: &[String], mix: Mix) {
+// Says which names are one file, or the standard output.
+fn tell_mix<R: Eprint>(rt: &R, words: &[String], mix: Mix) {
     let _said = match mix {
         Mix::Apart => Ok(()),
         Mix::Two(one, other) => {
@@ -83,7 +83,7 @@ fn tell_words<R: Eprint + AllocGlobal>(rt: &R, words: &[String]) {
         let name = at(words, place);
         let _said = eprintln!(rt; "fcoe_tool: {name} is named twice");
     } else if let Some(ports) = ports_of(words) {
-        let _said = eprintln!(rt; "fcoe_tool: {ports} ports, 64 at most");
+        let _said = eprintln!(rt; "fcoe_tool: {ports} ports, {MOST_PORTS} at most");
     } else {
         let _said = eprintln!(rt;
             "fcoe_tool: {command}: other words are wanted; see fcoe_tool --help"
@@ -120,7 +120,11 @@ fn ports_of(words: &[String]) -> Option<usize> {
         "show" => words.len().saturating_sub(3),
         _ => return None,
     };
-    if ports > 64 { Some(ports) } else { None }
+    if ports > MOST_PORTS {
+        Some(ports)
+    } else {
+        None
+    }
 }
 
 // The first place at which a name stands again.
