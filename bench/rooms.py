@@ -2,8 +2,8 @@
 """bench/rooms.py [TOP]: the table 'What each room may know' of docs/ARCHITECTURE.md, compared with the crates.
 
 Each cell 'What it is' stands as the first sentence of the crate's README, which may have more in brackets. Each cell 'What it doesn't know' is a list
-of phrases, and PHRASES has what each of them means: crates that the crate's src, specs and proofs may not name, and words that its src may not have,
-both without remarks. A cell `all crates but ..` has the crates of this repository that the crate may name, and no other; PROCESS holds for each crate
+of phrases, and PHRASES has what each of them means: crates, or modules of their definitions, that the crate's src, specs and proofs may not name, and
+words that its src may not have, both without remarks. A cell `all crates but ..` has the crates of this repository that the crate may name, and no other; PROCESS holds for each crate
 without such a cell. A phrase without a row, and a row whose phrase no cell has, are faults. TOP is the tree to look at, this one where none is given.
 bench/pages runs it too.
 """
@@ -18,7 +18,9 @@ RUNS = "fab_gather fab_windows fab_replay fab_live fab_pages run_files snoop_run
 
 # a sentence of the page, and the crates that it means
 PROCESS = ("No crate but fcoe_tool and tool_process knows the process.", "open_files tool_process fcoe_tool")
-# phrase of a cell: what it means, as crates, and as words of src
+# what the rules decide, as modules: who takes other definitions of fab_policy, of windows or of who is live, knows no verdict by them
+VERDICTS = "fab_policy.specs.Verdicts fab_policy.specs.Right fab_policy.specs.Cause fab_policy.specs.declared.verdict"
+# phrase of a cell: what it means, as crates or modules, and as words of src
 PHRASES: dict[str, tuple[str, str]] = {
     "captures": ("pcap_file pcapng_file", ""),
     "each other standard": (CODECS, ""),
@@ -40,8 +42,9 @@ PHRASES: dict[str, tuple[str, str]] = {
     "the fabric": ("forward_core", ""),
     "the forwarder": (FABRIC, "Rule Verdict"),
     "the node's stages": ("", "Stage"),
-    "the rules": ("fab_judge", "Rule Verdict"),
+    "the rules": ("fab_policy fab_judge", "Rule Verdict"),
     "threads": ("fab_turn fab_shared", "Threads Wait spawn"),
+    "verdicts": (f"fab_judge {VERDICTS}", "Rule Verdict"),
     "what an entry sends": ("fab_sending", ""),
     "what is in the frames": (CODECS, "Mac What FcFrame"),
     "what is sent": ("fab_messages fab_sending", "Out OutMessage OutList"),
@@ -70,14 +73,22 @@ def text(folder: pathlib.Path, parts: tuple[tuple[str, str], ...], remark: str) 
     return "\n".join(re.sub(rf"{remark}.*", "", file.read_text(encoding="utf-8")) for file in files)
 
 
-def named(folder: pathlib.Path, crates: set[str]) -> tuple[set[str], set[str]]:
-    """The crates that a crate names, and the words of its code without what contracts name."""
+def named(folder: pathlib.Path, crates: set[str]) -> tuple[set[str], set[str], set[str]]:
+    """The crates that a crate names, the words of its code without what contracts name, and the modules that its contracts and proofs name."""
     code = text(folder, (("src", "rt"),), "//")
     ghost = text(folder, (("specs", "antt"), ("proofs", "antt")), "--")
     heads = set(re.findall(r"(?<![\w.:])([a-z]\w*)::", code)) | set(re.findall(r"\buse ([a-z]\w*)(?:;| as )", code))
     heads |= set(re.findall(r"\bRattle\.([a-z]\w*)\b", code + ghost))
     plain = re.sub(r"^\s*ghost use [^;]*;", "", code, flags=re.M)
-    return heads & crates - {folder.name}, set(re.findall(r"\w+", plain))
+    modules = set(re.findall(r"\bRattle\.([a-z]\w*(?:\.\w+)+)", code + ghost))
+    return heads & crates - {folder.name}, set(re.findall(r"\w+", plain)), modules
+
+
+def is_there(name: str, folders: dict[str, pathlib.Path]) -> bool:
+    """Whether there is a crate of this name, or a module: CRATE.specs.FILE, or CRATE.specs.declared.FILE, which is made of the code's FILE."""
+    crate, _, path = name.partition(".specs.")
+    file = f"src/{path.removeprefix('declared.')}.rt" if path.startswith("declared.") else f"specs/{path}.antt"
+    return crate in folders and (not path or (folders[crate] / file).is_file())
 
 
 def rows(section: str) -> dict[str, tuple[str, list[str]]]:
@@ -93,7 +104,7 @@ def rows(section: str) -> dict[str, tuple[str, list[str]]]:
 
 
 def unknown_of(name: str, phrases: list[str], crates: set[str]) -> tuple[set[str], set[str]]:
-    """What a crate may not name, and the words that it may not have, by the phrases of its cell."""
+    """What a crate may not name, crates and modules, and the words that it may not have, by the phrases of its cell."""
     if phrases[0].startswith(ALL):
         return crates - set(re.findall(r"\w+", " ".join(phrases))) - {name}, set()
     meant = [PHRASES.get(it, ("", "")) for it in phrases]
@@ -116,14 +127,15 @@ def wrong(top: pathlib.Path) -> list[str]:
     said += [f"{page}: bench/rooms.py doesn't say what '{it}' means" for it in sorted(used - set(PHRASES))]
     said += [f"bench/rooms.py: no cell of {page} has '{it}'" for it in sorted(set(PHRASES) - used)]
     meant = set(" ".join([PROCESS[1], *(it for it, _ in PHRASES.values())]).split())
-    said += [f"bench/rooms.py: there is no crate {it}" for it in sorted(meant - set(folders))]
+    said += [f"bench/rooms.py: there is no {it}" for it in sorted(meant) if not is_there(it, folders)]
     for name in sorted(set(found) & set(folders)):
         what, phrases = found[name]
         begin = first_sentence((folders[name] / "README.md").read_text(encoding="utf-8"))
         said += [] if what == begin else [f"{page}: {name} is '{what}', and its README begins with '{begin}'"]
-        crates, words = named(folders[name], set(folders))
+        crates, words, modules = named(folders[name], set(folders))
         never, unsaid = unknown_of(name, phrases, set(folders))
-        both = sorted(crates & never | words & unsaid)
+        inside = {it for it in never - set(folders) if any(f"{path}.".startswith(f"{it}.") for path in modules)}
+        both = sorted(crates & never | inside | words & unsaid)
         said += [f"crates/{name}: may not know {' '.join(both)}"] * bool(both)
     return said
 

@@ -111,6 +111,7 @@ fn follow<R: Threads + Sync, D: Depot>(
 fn limits(budget: &Budget) -> u64
     ensures { (budget.now.bytes < 2 ^ 64) × (budget.now.frames < 2 ^ 64) }
 {
+    // For the proof: the bytes that are left are a number of 64 bits too.
     let _bytes = budget.bytes;
     budget.frames
 }

@@ -26,7 +26,7 @@ pub(crate) fn snoop<D: Depot>(alloc: Global, words: &[String], depot: &mut D) ->
     ensures touches { TouchesOwn (spec.Snoop (spec.snoop_of words.now))
         (D.seen depot.old) (D.seen depot.new) }
 {
-    // Laws: data goes up and down exactly by logins, and no ENode gets what another one sent;
+    // Law: data goes up and down exactly by logins, and no ENode gets what another one sent;
     // HasSnooped says so too.
     data_goes_up();
     data_goes_down();
