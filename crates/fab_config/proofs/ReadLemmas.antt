@@ -6,9 +6,8 @@ use Rattle.std.proofs.lemmas.Bool.{lt-ltb, and_from}
 use Rattle.fab_config.specs.Settings.{Settings, is_between, is_station, is_in_range}
 use Rattle.fab_config.specs.Lines.{lines_of}
 use Rattle.fab_config.specs.Fitting.{Fits, passes}
-use Rattle.fab_config.specs.Text.{line_read, lines_read, with_defaults, finished}
+use Rattle.fab_config.specs.Text.{line_read, lines_read, with_defaults}
 use Rattle.fab_config.specs.declared.ConfigWhy.{ConfigWhy}
-use Rattle.fab_config.specs.declared.ConfigWhy.TheVariants as why
 use Rattle.fab_config.specs.declared.ConfigFault.{ConfigFault}
 use Rattle.fab_config.specs.declared.draft.Draft.{Draft}
 
@@ -27,9 +26,9 @@ pub lines_ok : (n : ℕ) (d next : Draft) (all lines : List (List ℕ)) (line : 
 lines_ok n d next all lines line is e = sym (ap (lines_read n d) is ∙ step n d line lines ∙ ap (after n lines) e)
 
 -- where no line is left
-pub at_end : (n : ℕ) (d : Draft) (rest : List ℕ) (c : Settings) → length rest ≡ 0 → Some c ≡ finished d → lines_read n d (lines_of rest) ≡ Ok c
-at_end n d [] c empty e = ap (λ o. elim o as (λ _. Result Settings ConfigFault) [ Some c ↦ Ok c | None ↦ Err (record { line = n; why = why.Missing }) ]) (sym e)
-at_end n d (b ∷ rest) c empty e = absurd (omega arith)
+pub at_end : (n : ℕ) (d : Draft) (rest : List ℕ) → length rest ≡ 0 → lines_read n d (lines_of rest) ≡ lines_read n d []
+at_end n d [] empty = refl
+at_end n d (b ∷ rest) empty = absurd (omega arith)
 
 -- ---- the value
 

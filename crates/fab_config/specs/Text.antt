@@ -98,7 +98,13 @@ abbrev pub listed : (List ℕ → Option ℕ) → List (List ℕ) → Option (Li
 listed says [] = None
 listed says (w ∷ ws) = option_map once (all_of says (w ∷ ws))
 
--- the same, or that the line has no value
+-- a list that was read, which has one item at least
+abbrev pub one_at_least : {X : Type 0} → Option (List X) → Result (List X) ConfigWhy
+one_at_least None = Err Value
+one_at_least (Some []) = Err Value
+one_at_least (Some (x ∷ xs)) = Ok (x ∷ xs)
+
+-- what words list, or that the line has no value
 abbrev pub listed_or_fault : (List ℕ → Option ℕ) → List (List ℕ) → Result (List ℕ) ConfigWhy
 listed_or_fault says ws = ok_or (listed says ws) Value
 

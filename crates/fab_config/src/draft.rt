@@ -1,8 +1,9 @@
 //! What the lines of a text say so far.
-ghost use Rattle.std.specs.Prelude.{◌≡◌, ◌<◌, ◌^◌, Ok, IfErr, IfNone, IfOk, IfSome, true, unwrap_or};
+ghost use Rattle.std.specs.Prelude.{◌≡◌, ◌<◌, ◌^◌, Ok, Err, IfErr, IfNone, IfOk, IfSome, MatchResult};
+ghost use Rattle.std.specs.Prelude.{true, unwrap_or};
 ghost use Rattle.fab_config.specs.Lines.{words};
 ghost use Rattle.fab_config.specs.Text as spec;
-ghost use Rattle.fab_config.specs.Told.{Answers, Leaves, Tells};
+ghost use Rattle.fab_config.specs.Told.{Answers, Leaves};
 ghost use Rattle.fab_config.specs.Fitting.{Fits};
 
 use crate::hexes::{only_fc_map, only_name, only_station};
@@ -108,8 +109,9 @@ impl Draft {
     }
 
     // Puts a number under its key.
-    fn put_number(&mut self, key: NumberKey, number: Option<u32>) -> Result<(), LineError>
-        ensures { Leaves self.new result (spec.with_number self.old key number) }
+    fn put_number(&mut self, key: NumberKey, number: Option<u32>) -> Result<(), ConfigWhy>
+        ensures { let says = spec.with_number self.old key number in
+            MatchResult result (λ _. says ≡ Ok self.new) (λ why. says ≡ Err why) }
     {
         match key {
             NumberKey::Vlan => self.vlan = set_once(self.vlan, number)?,
@@ -187,36 +189,36 @@ fn switch_of(mac: &Mac) -> Wwn
 
 // The key and the values of a line, or none where it says nothing.
 #[tactic(auto, unfolding(crate::specs::Text::line_read))]
-fn key_and_values(line: &[u8]) -> Result<Option<(Keyword, &[u8])>, LineError>
+fn key_and_values(line: &[u8]) -> Result<Option<(Keyword, &[u8])>, ConfigWhy>
     ensures said { IfOk result (λ o. IfSome o (λ p. (d : Draft)
         → spec.line_read d line.now ≡ spec.with_keyword d p.0 (words p.1.now))) }
     ensures nothing { IfOk result (λ o. IfNone o ((d : Draft) → spec.line_read d line.now ≡ Ok d)) }
-    ensures fault { IfErr result (λ e. (d : Draft) → Tells e (spec.line_read d line.now)) }
+    ensures fault { IfErr result (λ why. (d : Draft) → spec.line_read d line.now ≡ Err why) }
 {
     if is_skipped(line) {
         return Ok(None);
     }
     if !is_ascii(line) {
-        return Err(LineError::Fault(ConfigWhy::Ascii));
+        return Err(ConfigWhy::Ascii);
     }
     let Some((word, values)) = next_word(line) else {
-        return Err(LineError::Fault(ConfigWhy::Key));
+        return Err(ConfigWhy::Key);
     };
     match keyword_of(word) {
         Some(keyword) => Ok(Some((keyword, values))),
-        None => Err(LineError::Fault(ConfigWhy::Key)),
+        None => Err(ConfigWhy::Key),
     }
 }
 
 // The value of a key that stands once.
-fn set_once<T: Copy + Drop>(old: Option<T>, value: Option<T>) -> Result<Option<T>, LineError>
-    ensures { Answers result (spec.set_once old value) }
+fn set_once<T: Copy + Drop>(old: Option<T>, value: Option<T>) -> Result<Option<T>, ConfigWhy>
+    ensures { result ≡ spec.set_once old value }
 {
     if old.is_some() {
-        return Err(LineError::Fault(ConfigWhy::Twice));
+        return Err(ConfigWhy::Twice);
     }
     match value {
         Some(value) => Ok(Some(value)),
-        None => Err(LineError::Fault(ConfigWhy::Value)),
+        None => Err(ConfigWhy::Value),
     }
 }

@@ -1,6 +1,7 @@
 //! Zones and zone sets as they are read, with an index of their names.
-ghost use Rattle.std.specs.Prelude.{◌≡◌, ◌<◌, ◌∷◌, ◌++◌, [], None, Some, IfOk};
-ghost use Rattle.std.specs.Prelude.{IfSome, OnOk, MatchResult, length, map, option_map};
+ghost use Rattle.std.specs.Prelude.{◌≡◌, ◌<◌, ◌+◌, ℕ, List, ◌∷◌, ◌++◌, [], Option, None, Some};
+ghost use Rattle.std.specs.Prelude.{Result, Ok, Err, IfErr, IfOk, IfSome, OnOk, MatchResult, true};
+ghost use Rattle.std.specs.Prelude.{length, map, option_map, sum_by};
 ghost use Rattle.std.specs.List.{list_all};
 ghost use Rattle.fab_config.specs.Lines.{words};
 ghost use Rattle.fab_config.specs.Names.{place};
@@ -8,7 +9,7 @@ ghost use Rattle.fab_config.specs.Values as spec;
 ghost use Rattle.fab_config.specs.Settings.{is_zone_name as is_zone_name_spec};
 ghost use Rattle.fab_config.specs.Settings.{is_letter as is_letter_spec};
 ghost use Rattle.fab_config.specs.Settings.{is_name_sign as is_name_sign_spec};
-ghost use Rattle.fab_config.specs.Text.{grown, zones_with, sets_with};
+ghost use Rattle.fab_config.specs.Text.{grown, one_at_least, with_named, zones_with, sets_with};
 ghost use Rattle.fab_config.specs.Text.{activations_with, activation, is_later as is_later_spec};
 ghost use Rattle.fab_config.specs.Text.{listed, listed_or_fault, zone_place};
 ghost use Rattle.fab_config.specs.Told.{Answers, Leaves, Tells};
@@ -43,18 +44,30 @@ pub(crate) trait Listing: Drop {
     ghost name: { Self → List ℕ };
 
     ghost numbers: { Self → List ℕ };
+
+    /// How many numbers are under it.
+    fn count(&self) -> usize
+        ensures { result ≡ length (numbers self.now) };
 }
 
 impl Listing for Zone {
     ghost name = { λ z. z.name };
 
     ghost numbers = { λ z. z.members };
+
+    fn count(&self) -> usize {
+        self.members.len()
+    }
 }
 
 impl Listing for ZoneSet {
     ghost name = { λ s. s.name };
 
     ghost numbers = { λ s. s.places };
+
+    fn count(&self) -> usize {
+        self.places.len()
+    }
 }
 
 /// The zones or the zone sets so far.
@@ -112,32 +125,65 @@ impl<T: Listing> Named<T> {
         list
     }
 
-    // The list with one more item, which has so many numbers, within the limits.
+    // The first word of a line, where it is a name that is new here, and what is behind it.
+    fn new_name<'a>(&self, values: &'a [u8]) -> Result<(&'a [u8], &'a [u8]), ConfigWhy>
+        ensures words { IfOk result (λ p. words values.now ≡ p.0.now ∷ words p.1.now) }
+        ensures new { IfOk result (λ p. place p.0.now (map T.name self.now) ≡ None) }
+        ensures name { IfOk result (λ p. is_zone_name_spec p.0.now ≡ true) }
+        ensures fault { IfErr result (λ why. (says : List ℕ → Option ℕ)
+            (put : List ℕ → List ℕ → Result (List T) ConfigWhy)
+            → with_named (map T.name self.now) says put (words values.now) ≡ Err why) }
+    {
+        let Some((name, rest)) = next_word(values) else {
+            return Err(ConfigWhy::Value);
+        };
+        if self.place(name).is_some() {
+            return Err(ConfigWhy::Twice);
+        }
+        if !is_zone_name(name) {
+            return Err(ConfigWhy::Value);
+        }
+        Ok((name, rest))
+    }
+
+    // How many numbers there are with one more item, where that is within the limits.
+    fn numbers_with(&self, item: &T, most: u32, most_numbers: u32) -> Result<usize, ConfigWhy>
+        ensures sum { IfOk result (λ n. n ≡ sum_by (λ x. length (T.numbers x))
+            (self.now ++ item.now ∷ [])) }
+        ensures few { OnOk result (length self.now < most) }
+        ensures within { let more = self.now ++ item.now ∷ [] in
+            OnOk result (grown T.numbers most most_numbers more ≡ Ok more) }
+        ensures limit { IfErr result (λ why. grown T.numbers most most_numbers
+            (self.now ++ item.now ∷ []) ≡ Err why) }
+    {
+        let Some(numbers) = self.numbers.checked_add(item.count()) else {
+            return Err(ConfigWhy::Limit);
+        };
+        if self.list.len() >= most as usize || numbers > most_numbers as usize {
+            return Err(ConfigWhy::Limit);
+        }
+        Ok(numbers)
+    }
+
+    // The list with one more item, within the limits.
     fn grown(
         self,
         alloc: Global,
         name: &[u8],
         item: T,
-        count: usize,
         most: u32,
         most_numbers: u32,
     ) -> Result<Named<T>, LineError>
         requires new { place name.now (map T.name self) ≡ None }
         requires named { T.name item ≡ name.now }
-        requires count { count ≡ length (T.numbers item) }
         ensures { Answers result (grown T.numbers most most_numbers (self ++ item ∷ [])) }
     {
+        let numbers = self.numbers_with(&item, most, most_numbers)?;
         let Named {
             mut names,
             mut list,
-            numbers,
+            ..
         } = self;
-        let Some(numbers) = numbers.checked_add(count) else {
-            return Err(LineError::Fault(ConfigWhy::Limit));
-        };
-        if list.len() >= most as usize || numbers > most_numbers as usize {
-            return Err(LineError::Fault(ConfigWhy::Limit));
-        }
         names.push(alloc, name)?;
         list.push(alloc, item)?;
         Ok(Named {
@@ -157,22 +203,13 @@ pub(crate) fn with_zone(
 ) -> Result<NamedZones, LineError>
     ensures { Answers result (zones_with zones (words values.now)) }
 {
-    let Some((name, rest)) = next_word(values) else {
-        return Err(LineError::Fault(ConfigWhy::Value));
-    };
-    if zones.place(name).is_some() {
-        return Err(LineError::Fault(ConfigWhy::Twice));
-    }
-    if !is_zone_name(name) {
-        return Err(LineError::Fault(ConfigWhy::Value));
-    }
+    let (name, rest) = zones.new_name(values)?;
     let members = read_members(alloc, rest)?;
-    let count = members.len();
     let zone = Zone {
         name: Bytes::copy(alloc, name)?,
         members,
     };
-    zones.grown(alloc, name, zone, count, MOST_ZONES, MOST_MEMBERS)
+    zones.grown(alloc, name, zone, MOST_ZONES, MOST_MEMBERS)
 }
 
 /// The zone sets with the one of a line with these values behind them.
@@ -185,22 +222,13 @@ pub(crate) fn with_set(
 ) -> Result<NamedSets, LineError>
     ensures { Answers result (sets_with zones.now sets (words values.now)) }
 {
-    let Some((name, rest)) = next_word(values) else {
-        return Err(LineError::Fault(ConfigWhy::Value));
-    };
-    if sets.place(name).is_some() {
-        return Err(LineError::Fault(ConfigWhy::Twice));
-    }
-    if !is_zone_name(name) {
-        return Err(LineError::Fault(ConfigWhy::Value));
-    }
+    let (name, rest) = sets.new_name(values)?;
     let places = read_zones(alloc, zones, rest)?;
-    let count = places.len();
     let set = ZoneSet {
         name: Bytes::copy(alloc, name)?,
         places,
     };
-    sets.grown(alloc, name, set, count, MOST_SETS, MOST_PLACES)
+    sets.grown(alloc, name, set, MOST_SETS, MOST_PLACES)
 }
 
 // The names of a zone's line, one at least, each of which counts once.
@@ -208,9 +236,17 @@ fn read_members(alloc: Global, values: &[u8]) -> Result<NameList, LineError>
     ensures { MatchResult result (λ m. listed spec.name (words values.now) ≡ Some m)
         (λ e. Tells e (listed_or_fault spec.name (words values.now))) }
 {
-    match read_names(alloc, values)? {
-        Some(members) if members.len() > 0 => Ok(members),
-        _ => Err(LineError::Fault(ConfigWhy::Value)),
+    let members = one_at_least(read_names(alloc, values)?)?;
+    Ok(members)
+}
+
+// A list that was read, which has one item at least.
+fn one_at_least<T: Drop>(list: Option<OwnedList<T>>) -> Result<OwnedList<T>, ConfigWhy>
+    ensures { result ≡ one_at_least list }
+{
+    match list {
+        Some(list) if list.len() > 0 => Ok(list),
+        _ => Err(ConfigWhy::Value),
     }
 }
 
@@ -256,10 +292,8 @@ fn read_zones(alloc: Global, zones: &NamedZones, values: &[u8]) -> Result<PlaceL
         MatchResult result (λ m. listed says (words values.now) ≡ Some m)
         (λ e. Tells e (listed_or_fault says (words values.now))) }
 {
-    match read_places(alloc, zones, values)? {
-        Some(places) if places.len() > 0 => Ok(places),
-        _ => Err(LineError::Fault(ConfigWhy::Value)),
-    }
+    let places = one_at_least(read_places(alloc, zones, values)?)?;
+    Ok(places)
 }
 
 // The places of the zones of these names, if each is the name of one.
@@ -303,7 +337,6 @@ fn add_place(
 }
 
 /// Puts the activation of a line with these values behind the others.
-#[tactic(auto, unfolding(crate::specs::Text::activations_with))]
 pub(crate) fn put_activation(
     activations: &mut ActivationList,
     alloc: Global,
@@ -313,14 +346,28 @@ pub(crate) fn put_activation(
     ensures { Leaves activations.new result
         (activations_with sets.now activations.old (words values.now)) }
 {
-    let Some(activation) = read_activation(activations, sets, values) else {
-        return Err(LineError::Fault(ConfigWhy::Value));
-    };
-    if activations.len() >= MOST_ACTIVATIONS {
-        return Err(LineError::Fault(ConfigWhy::Limit));
-    }
+    let activation = next_activation(activations, sets, values)?;
     activations.push(alloc, activation)?;
     Ok(())
+}
+
+// The activation of a line with these values, where there may be one more.
+#[tactic(auto, unfolding(crate::specs::Text::activations_with))]
+fn next_activation(
+    activations: &ActivationList,
+    sets: &NamedSets,
+    values: &[u8],
+) -> Result<Activation, ConfigWhy>
+    ensures { let says = activations_with sets.now activations.now (words values.now) in
+        MatchResult result (λ a. says ≡ Ok (activations.now ++ a ∷ [])) (λ why. says ≡ Err why) }
+{
+    let Some(activation) = read_activation(activations, sets, values) else {
+        return Err(ConfigWhy::Value);
+    };
+    if activations.len() >= MOST_ACTIVATIONS {
+        return Err(ConfigWhy::Limit);
+    }
+    Ok(activation)
 }
 
 // The activation of a line with these values.

@@ -1,5 +1,6 @@
 //! Reading a configuration text.
-ghost use Rattle.std.specs.Prelude.{◌≡◌, ◌≤◌, length};
+ghost use Rattle.std.specs.Prelude.{◌≡◌, ◌≤◌, [], Err, IfErr, OnOk, length};
+ghost use Rattle.fab_config.specs.Fitting.{Fits};
 ghost use Rattle.fab_config.specs.Lines.{lines_of};
 ghost use Rattle.fab_config.specs.Text.{decoded, lines_read, NOTHING};
 ghost use Rattle.fab_config.specs.Told.{AnswersText, text_error};
@@ -22,11 +23,33 @@ pub enum ConfigError {
     Memory,
 }
 
+impl From<ConfigFault> for ConfigError {
+    ghost use Rattle.std.specs.Prelude.{◌≡◌};
+    ghost use Rattle.fab_config.specs.declared.reading.ConfigError.TheVariants.{Fault};
+
+    ghost from_gives = { λ fault e. e ≡ Fault fault };
+
+    fn from(fault: ConfigFault) -> ConfigError {
+        ConfigError::Fault(fault)
+    }
+}
+
 /// Why a line was not read.
 #[derive(Clone, Copy)]
 pub(crate) enum LineError {
     Fault(ConfigWhy),
     Memory,
+}
+
+impl From<ConfigWhy> for LineError {
+    ghost use Rattle.std.specs.Prelude.{◌≡◌};
+    ghost use Rattle.fab_config.specs.declared.reading.LineError.TheVariants.{Fault};
+
+    ghost from_gives = { λ why e. e ≡ Fault why };
+
+    fn from(why: ConfigWhy) -> LineError {
+        LineError::Fault(why)
+    }
 }
 
 impl From<NoMemory> for LineError {
@@ -44,17 +67,27 @@ impl From<NoMemory> for LineError {
 const MOST_TEXT: usize = 1048576;
 
 /// The value of a configuration text, or its first fault.
-#[tactic(auto, unfolding(crate::specs::Text::decoded))]
 pub fn read_config(alloc: Global, text: &[u8]) -> Result<Config, ConfigError>
     ensures { AnswersText result (decoded text.now) }
 {
+    check_length(text)?;
+    read_lines(alloc, text)
+}
+
+// Refuses a text that is too long.
+#[tactic(auto, unfolding(crate::specs::Text::decoded))]
+fn check_length(text: &[u8]) -> Result<(), ConfigFault>
+    ensures within { OnOk result (length text.now ≤ 1048576) }
+    ensures lines { OnOk result (decoded text.now ≡ lines_read 1 NOTHING (lines_of text.now)) }
+    ensures long { IfErr result (λ fault. decoded text.now ≡ Err fault) }
+{
     if text.len() > MOST_TEXT {
-        return Err(ConfigError::Fault(ConfigFault {
+        return Err(ConfigFault {
             line: 0,
             why: ConfigWhy::Long,
-        }));
+        });
     }
-    read_lines(alloc, text)
+    Ok(())
 }
 
 // The value of the lines of a text.
@@ -76,13 +109,18 @@ fn read_lines(alloc: Global, text: &[u8]) -> Result<Config, ConfigError>
         rest = more;
         line += 1;
     }
-    match draft.finish() {
-        Some(config) => Ok(config),
-        None => Err(ConfigError::Fault(ConfigFault {
-            line,
-            why: ConfigWhy::Missing,
-        })),
-    }
+    Ok(finished(draft, line)?)
+}
+
+// The value of a draft behind which no line is left, unless a required key is missing.
+fn finished(draft: Draft, line: u32) -> Result<Config, ConfigFault>
+    requires { Fits draft }
+    ensures { result ≡ lines_read line draft [] }
+{
+    draft.finish().ok_or(ConfigFault {
+        line,
+        why: ConfigWhy::Missing,
+    })
 }
 
 // What an error of a line is to the text.

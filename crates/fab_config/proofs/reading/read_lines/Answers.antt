@@ -1,4 +1,5 @@
 use Rattle.std.proofs.Common.{◌≡◌, ◌∙◌, length, sym, arith, rules}
+use Rattle.std.proofs.lemmas.Result.{err_from_is_err_and}
 use Rattle.fab_config.specs.Lines.{lines_of}
 use Rattle.fab_config.proofs.FitLemmas.{line_fits}
 use Rattle.fab_config.proofs.ReadLemmas.{lines_ok, at_end}
@@ -15,7 +16,13 @@ loop-rest-preserved c =
       few = let f = c.loop-rest.invariant.few in let l = c.cut_line.ensures.less in omega (arith, f, l);
     }
 
-pub returns-in-Some : goal.returns-in-Some
-returns-in-Some c =
+pub returns : goal.returns
+returns c =
     let empty : length c.loop-rest.rest.now ≡ 0 = search rules in
-    sym c.loop-rest.invariant.on ∙ at_end c.loop-rest.line c.loop-rest.draft c.loop-rest.rest.now c.in-Some.config empty c.in-Some.ensures
+    sym c.loop-rest.invariant.on ∙ at_end c.loop-rest.line c.loop-rest.draft c.loop-rest.rest.now empty ∙ sym c.in_ok-finished.ensures
+
+pub returns-in_err-finished : goal.returns-in_err-finished
+returns-in_err-finished c =
+    let empty : length c.loop-rest.rest.now ≡ 0 = search rules in
+    let p = err_from_is_err_and c.from_residual.result c.from_residual.ensures.1 in
+    rw (p.1, p.2) (sym c.loop-rest.invariant.on ∙ at_end c.loop-rest.line c.loop-rest.draft c.loop-rest.rest.now empty ∙ sym c.in_err-finished.ensures)
