@@ -236,6 +236,7 @@ module _ (slot : ℕ) (a b : Seen) (held rest front : List ℕ) (h : Head) (at :
       tells = λ told budget faces room. steps told budget faces room true (ap not (ne_eqb n h.size differs));
       behind = λ told. tt;
       fits = tt;
+      asks = λ is. absurd (cc);
       cause = λ f is. absurd (cc);
       waits = λ told f is. absurd (cc);
       counts = s.counts;
@@ -248,6 +249,7 @@ module _ (slot : ℕ) (a b : Seen) (held rest front : List ℕ) (h : Head) (at :
           ∙ (λ i. if le-ltb budget.frames 0 (omega arith) i then Err (errors.Limit limits.Frames) else Ok (Some (record { size = sym is i; content = says.Nothing })));
       behind = λ told. let t = s.tells told in (omega (arith, t.0), t.2 ∙ ap (λ (m : ℕ). drop m (from_front slot (begun front h) (supply held a))) (sym is));
       fits = (is, refl, tt);
+      asks = λ e. absurd (cc);
       cause = λ f e. absurd (cc);
       waits = λ told f e. absurd (cc);
       counts = s.counts;

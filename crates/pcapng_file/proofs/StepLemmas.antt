@@ -1,26 +1,30 @@
 -- The next block, by what its buffers hold.
-use Rattle.std.proofs.Common.{◌≡◌, ℕ, ◌+◌, ◌-◌, ◌<◌, ◌≤◌, inl, inr, Bool, true, false, IsTrue, ◌&&◌, if◌then◌else◌, eqb, ltb, List, [], ◌++◌, length, length-append, take, drop, append_assoc, Option, Some, None, Ok, Err, refl, sym, ap, ◌∙◌, subst, arith}
+use Rattle.std.proofs.Common.{◌≡◌, ◌≢◌, ℕ, ◌+◌, ◌-◌, ◌<◌, ◌≤◌, inl, inr, Bool, true, false, IsTrue, ◌&&◌, if◌then◌else◌, eqb, ltb, List, [], ◌++◌, length, length-append, length-drop, take, drop, append_assoc, Option, Some, None, Ok, Err, refl, sym, ap, ◌∙◌, subst, arith}
 use Rattle.std.specs.Prelude.{Result, is_some, IfOk, MatchOption}
 use Rattle.std.proofs.lemmas.Bool.{lt-ltb, le-ltb, eqb-true, ne_eqb}
-use Rattle.std.proofs.lemmas.List.{take_at, drop_at}
+use Rattle.std.proofs.lemmas.List.{take_at, drop_at, length-take-le}
 use Rattle.fab_base.specs.Ending.{end_by}
 use Rattle.fab_base.specs.Seen.{Seen, Reads, Rose, SameReadFaults}
 use Rattle.fab_base.proofs.EndingLemmas.{said_so, spares_reads, spares_reads_then}
 use Rattle.fab_base.specs.declared.values.Failed.{Failed}
 use Rattle.fab_base.proofs.Depots.{reads_trans, input_name, told_stays, rose_later}
 use Rattle.pcap_file.specs.declared.Budget.{Budget}
-use Rattle.pcap_file.specs.Reading.{Pulls, supply}
+use Rattle.pcap_file.specs.Reading.{Pulls, Supply, supply, coming}
 use Rattle.pcap_file.proofs.lemmas.Buffers.{front_is, short_is}
+use Rattle.pcap_file.proofs.lemmas.Numbers.{le_or_lt}
 use Rattle.pcapng_file.specs.declared.fault.NgWhy.{NgWhy}
 use Rattle.pcapng_file.specs.declared.fault.NgWhy.TheVariants as why
 use Rattle.pcapng_file.specs.declared.fault.NgLimit.TheVariants as limits
 use Rattle.pcapng_file.specs.declared.fault.NgError.{NgError}
 use Rattle.pcapng_file.specs.declared.fault.NgError.TheVariants as errors
 use Rattle.pcapng_file.specs.declared.block.Head.{Head}
+use Rattle.pcapng_file.specs.contracts.block.KindPartialEq.TheImpl as kind_eq
+use Rattle.pcapng_file.specs.declared.block.Kind.{Kind}
+use Rattle.pcapng_file.specs.declared.block.Kind.TheVariants as kinds
 use Rattle.pcapng_file.specs.declared.packet.Content.{Content}
 use Rattle.pcapng_file.specs.declared.reading.Block.{Block}
 use Rattle.pcapng_file.specs.Block.{first, unless, head_of, head_tests, head_read, body_read}
-use Rattle.pcapng_file.specs.File.{Section, at_fault, and_then, frames_of, counted, step_in, step_of, found, AreKept, TellsRead, ng_end, NotRead, head_at, Lacks, place, BlockRead}
+use Rattle.pcapng_file.specs.File.{Section, at_fault, and_then, frames_of, counted, step_in, step_of, found, AreKept, TellsRead, ng_end, NotRead, head_at, Lacks, place, AsksMemory, BlockRead}
 use Rattle.pcapng_file.specs.Passing.{PassesOver, begun}
 use Rattle.std.specs.Result.{IsErrAnd}
 
@@ -29,6 +33,13 @@ pub handed_on : {slot : ℕ} {a b : Seen} {held rest : List ℕ} {budget : Budge
     BlockRead slot (place at s budget) (supply held a) (supply rest b) (Err e) → BlockRead slot (place at s budget) (supply held a) (supply rest b) r
 handed_on {slot} {a} {b} {held} {rest} {budget} {at} {s} (Ok t) e h p = absurd h
 handed_on {slot} {a} {b} {held} {rest} {budget} {at} {s} (Err x) e h p = subst (λ y. BlockRead slot (place at s budget) (supply held a) (supply rest b) (Err y)) (sym h) p
+
+-- a block of a kind that the test of sameness doesn't find to be another's
+abbrev same_kind : Kind → Kind → Bool
+same_kind = kind_eq.ghosts.eq
+
+pub not_other : (kind : Kind) → same_kind kind kinds.Other ≡ false → kind ≢ kinds.Other
+not_other kind differs is = let same : true ≡ same_kind kind kinds.Other = (λ i. same_kind (sym is i) kinds.Other) in let never : true ≡ false = same ∙ differs in absurd (cc)
 
 -- ---- the step by its tests
 
@@ -112,6 +123,7 @@ block_unread slot a b held mid front budget at s sized f first = record {
   behind = λ told. tt;
   ended = λ told. tt;
   fits = tt;
+  asks = λ told is. absurd (cc);
   cause = λ g is. first.cause;
   waits = λ told g is. inl (omega (arith, first.waits told));
   counts = tt;
@@ -138,6 +150,7 @@ module _ (slot : ℕ) (a b : Seen) (held mid front : List ℕ) (n : ℕ) (budget
         behind = all;
         ended = none_left;
         fits = tt;
+        asks = λ told is. absurd (cc);
         cause = λ f e. absurd (cc);
         waits = λ told f e. absurd (cc);
         counts = first.counts;
@@ -153,6 +166,7 @@ module _ (slot : ℕ) (a b : Seen) (held mid front : List ℕ) (n : ℕ) (budget
     behind = λ told. tt;
     ended = λ told. tt;
     fits = tt;
+    asks = λ told is. absurd (cc);
     cause = no_cause _ _ (errors.Fault at why.Cut) tt;
     waits = no_waits _ s _ _ (errors.Fault at why.Cut) tt;
     counts = first.counts;
@@ -175,6 +189,7 @@ module _ (slot : ℕ) (a b : Seen) (held mid front : List ℕ) (n : ℕ) (budget
       behind = λ told. tt;
       ended = λ told. tt;
       fits = tt;
+      asks = λ told is. absurd (cc);
       cause = no_cause _ _ (errors.Fault at fault) tt;
       waits = no_waits _ s _ _ (errors.Fault at fault) tt;
       counts = first.counts;
@@ -187,6 +202,9 @@ module _ (slot : ℕ) (a b : Seen) (held mid front : List ℕ) (n : ℕ) (budget
       size_is : IsTrue a.told → (head_at s (held ++ a.left slot)).size ≡ h.size
       size_is told = ap (λ (x : Head). x.size) (head_told s.order (take 12 (held ++ a.left slot)) h (head_is told))
 
+      kind_is : IsTrue a.told → (head_at s (held ++ a.left slot)).kind ≡ h.kind
+      kind_is told = ap (λ (x : Head). x.kind) (head_told s.order (take 12 (held ++ a.left slot)) h (head_is told))
+
       pub block_bytes : budget.bytes < h.size → BlockRead slot (place at s budget) (supply held a) (supply mid b) (Err (errors.Limit limits.Bytes))
       block_bytes lt = record {
         reads = first.reads;
@@ -194,6 +212,7 @@ module _ (slot : ℕ) (a b : Seen) (held mid front : List ℕ) (n : ℕ) (budget
         behind = λ told. tt;
         ended = λ told. tt;
         fits = tt;
+        asks = λ told is. absurd (cc);
         cause = no_cause _ _ (errors.Limit limits.Bytes) tt;
         waits = no_waits _ s _ _ (errors.Limit limits.Bytes) tt;
         counts = first.counts;
@@ -210,10 +229,36 @@ module _ (slot : ℕ) (a b : Seen) (held mid front : List ℕ) (n : ℕ) (budget
             behind = λ told. passed_behind (held ++ a.left slot) (rest ++ c.left slot) result (subst (λ l. IfOk result (λ o. MatchOption o ⊥ (λ k. (k.size ≤ length l) × (rest ++ c.left slot ≡ drop k.size l)))) (sym (whole told)) (p.behind (still told)));
             ended = λ told. passed_ends (rest ++ c.left slot) h.size result p.fits;
             fits = passed_fits h.size budget least room result p.fits;
+            asks = λ told is. absurd (p.asks is);
             cause = λ f is. rose_later _ _ _ first.reads.keeps.reads_rise (subst (λ m. Rose (b.read_faults m) (c.read_faults m)) same (p.cause f is));
             waits = λ told f is. inr (omega (arith, p.waits (still told) f is, length-append front (mid ++ b.left slot), ap length (whole told), size_is told));
             counts = spares_reads_then (end_by ng_end result) a b c first.counts p.counts;
           }
+
+      -- memory is asked for behind such a head, of a block that doesn't go by
+      module _ (room : h.size ≤ budget.bytes) (other : h.kind ≢ kinds.Other) where
+        asks_behind : (new : Supply) (told : IsTrue a.told) → (length (held ++ a.left slot) < h.size → coming slot new ≡ drop 12 (held ++ a.left slot)) → AsksMemory slot (place at s budget) (supply held a) new
+        asks_behind new told cut = record {
+          there = omega (arith, long told);
+          right = head_is told ∙ ap (λ (x : Head). Ok x) (sym (head_told s.order (take 12 (held ++ a.left slot)) h (head_is told)));
+          room = omega (arith, size_is told);
+          held = λ e. other (sym (kind_is told) ∙ e);
+          cut = λ lt. cut (omega (arith, lt, size_is told));
+        }
+
+        -- it is refused before the rest is taken
+        pub block_unheld : BlockRead slot (place at s budget) (supply held a) (supply mid b) (Err errors.Memory)
+        block_unheld = record {
+          reads = first.reads;
+          tells = λ told. tt;
+          behind = λ told. tt;
+          ended = λ told. tt;
+          fits = tt;
+          asks = λ told is. asks_behind (supply mid b) told (λ lt. sym (ap (drop 12) (whole told) ∙ drop_at front (mid ++ b.left slot) 12 sized));
+          cause = no_cause _ _ errors.Memory tt;
+          waits = no_waits _ s _ _ errors.Memory tt;
+          counts = first.counts;
+        }
 
       module _ (c : Seen) (rest body : List ℕ) (is_in : IsTrue (a.input slot)) (room : h.size ≤ budget.bytes) (least : 12 ≤ h.size) (sized_body : length body ≡ h.size - 12) where
         same : b.name slot ≡ a.name slot
@@ -229,6 +274,7 @@ module _ (slot : ℕ) (a b : Seen) (held mid front : List ℕ) (n : ℕ) (budget
           behind = λ told. tt;
           ended = λ told. tt;
           fits = tt;
+          asks = λ told is. absurd (cc);
           cause = λ g is. rose_later _ _ _ first.reads.keeps.reads_rise (subst (λ m. Rose (b.read_faults m) (c.read_faults m)) same second.cause);
           waits = λ told g is. inr (omega (arith, second.waits (told_b told), long told, size_is told));
           counts = tt;
@@ -241,19 +287,6 @@ module _ (slot : ℕ) (a b : Seen) (held mid front : List ℕ) (n : ℕ) (budget
           both_counts : SameReadFaults a c
           both_counts m = second.counts m ∙ first.counts m
 
-          -- memory is refused
-          pub block_refused : BlockRead slot (place at s budget) (supply held a) (supply rest c) (Err errors.Memory)
-          block_refused = record {
-            reads = both;
-            tells = λ told. tt;
-            behind = λ told. tt;
-            ended = λ told. tt;
-            fits = tt;
-            cause = no_cause _ _ errors.Memory tt;
-            waits = no_waits _ s _ _ errors.Memory tt;
-            counts = both_counts;
-          }
-
           pub block_cut : k < length body → BlockRead slot (place at s budget) (supply held a) (supply rest c) (Err (errors.Fault at why.Cut))
           block_cut lt = record {
             reads = both;
@@ -264,8 +297,27 @@ module _ (slot : ℕ) (a b : Seen) (held mid front : List ℕ) (n : ℕ) (budget
             behind = λ told. tt;
             ended = λ told. tt;
             fits = tt;
+            asks = λ told is. absurd (cc);
             cause = no_cause _ _ (errors.Fault at why.Cut) tt;
             waits = no_waits _ s _ _ (errors.Fault at why.Cut) tt;
+            counts = both_counts;
+          }
+
+          -- the whole block is there
+          there : IsTrue a.told → length body ≤ k → h.size ≤ length (held ++ a.left slot)
+          there told full = omega (arith, long told, length-drop k (mid ++ b.left slot), ap length (second.taken (told_b told)), length-append (take k body) (rest ++ c.left slot), length-take-le k body second.bound)
+
+          -- memory is refused where all is taken
+          pub block_refused : length body ≤ k → h.kind ≢ kinds.Other → BlockRead slot (place at s budget) (supply held a) (supply rest c) (Err errors.Memory)
+          block_refused full other = record {
+            reads = both;
+            tells = λ told. tt;
+            behind = λ told. tt;
+            ended = λ told. tt;
+            fits = tt;
+            asks = λ told is. asks_behind room other (supply rest c) told (λ lt. absurd (omega (arith, lt, there told full)));
+            cause = no_cause _ _ errors.Memory tt;
+            waits = no_waits _ s _ _ errors.Memory tt;
             counts = both_counts;
           }
 
@@ -284,13 +336,14 @@ module _ (slot : ℕ) (a b : Seen) (held mid front : List ℕ) (n : ℕ) (budget
                 step_whole budget at s (held ++ a.left slot) (omega (arith, long told)) h (head_is told) room (long_enough told)
                 ∙ ap (λ (l : List ℕ). and_then (at_fault at (body_read h s.faces l)) (counted budget h.size)) (ap (take h.size) (all told) ∙ take_at block (rest ++ c.left slot) h.size sized_block)
 
-            pub block_err : (e : NgError) → NotRead e → TellsRead {A = Content} (at_fault at (body_read h s.faces block)) (Err e) → BlockRead slot (place at s budget) (supply held a) (supply rest c) (Err e)
-            block_err e own tells = record {
+            pub block_err : h.kind ≢ kinds.Other → (e : NgError) → NotRead e → TellsRead {A = Content} (at_fault at (body_read h s.faces block)) (Err e) → BlockRead slot (place at s budget) (supply held a) (supply rest c) (Err e)
+            block_err other e own tells = record {
               reads = both;
               tells = λ told. subst (λ x. TellsRead {A = Option Block} x (Err e)) (sym (step_block told)) (then_err (at_fault at (body_read h s.faces block)) (counted budget h.size) e tells);
               behind = λ told. tt;
               ended = λ told. tt;
               fits = tt;
+              asks = λ told is. asks_behind room other (supply rest c) told (λ lt. absurd (omega (arith, lt, long_enough told)));
               cause = no_cause _ _ e own;
               waits = no_waits _ s _ _ e own;
               counts = spares_reads (ng_end e) a c (λ other. both_counts);
@@ -300,26 +353,39 @@ module _ (slot : ℕ) (a b : Seen) (held mid front : List ℕ) (n : ℕ) (budget
               counts : IsTrue a.told → step_of budget at s (held ++ a.left slot) ≡ counted budget h.size content
               counts told = step_block told ∙ ap (λ x. and_then x (counted budget h.size)) says
 
-              pub block_frames : budget.frames < frames_of content → BlockRead slot (place at s budget) (supply held a) (supply rest c) (Err (errors.Limit limits.Frames))
+              block_frames : budget.frames < frames_of content → BlockRead slot (place at s budget) (supply held a) (supply rest c) (Err (errors.Limit limits.Frames))
               block_frames lt = record {
                 reads = both;
                 tells = λ told. counts told ∙ (λ i. if lt-ltb budget.frames (frames_of content) lt i then Err (errors.Limit limits.Frames) else Ok (Some (record { size = h.size; content = content })));
                 behind = λ told. tt;
                 ended = λ told. tt;
                 fits = tt;
+                asks = λ told is. absurd (cc);
                 cause = no_cause _ _ (errors.Limit limits.Frames) tt;
                 waits = no_waits _ s _ _ (errors.Limit limits.Frames) tt;
                 counts = both_counts;
               }
 
-              pub block_done : frames_of content ≤ budget.frames → AreKept (found content) → BlockRead slot (place at s budget) (supply held a) (supply rest c) (Ok (Some (record { size = h.size; content = content })))
+              block_done : frames_of content ≤ budget.frames → AreKept (found content) → BlockRead slot (place at s budget) (supply held a) (supply rest c) (Ok (Some (record { size = h.size; content = content })))
               block_done le_frames kept = record {
                 reads = both;
                 tells = λ told. counts told ∙ (λ i. if le-ltb budget.frames (frames_of content) le_frames i then Err (errors.Limit limits.Frames) else Ok (Some (record { size = h.size; content = content })));
                 behind = λ told. (long_enough told, sym (ap (drop h.size) (all told) ∙ drop_at block (rest ++ c.left slot) h.size sized_block));
                 ended = λ told. tt;
                 fits = (least, room, le_frames, kept);
+                asks = λ told is. absurd (cc);
                 cause = λ f e. absurd (cc);
                 waits = λ told f e. absurd (cc);
                 counts = both_counts;
               }
+
+              -- the last test is that of the frames
+              pub block_counted : AreKept (found content) → (result : Result (Option Block) NgError) → result ≡ counted budget h.size content → BlockRead slot (place at s budget) (supply held a) (supply rest c) result
+              block_counted kept result is = elim (le_or_lt (frames_of content) budget.frames) [
+                | inl le_frames ↦ subst (λ (x : Result (Option Block) NgError). BlockRead slot (place at s budget) (supply held a) (supply rest c) x)
+                    (sym (is ∙ (λ i. if le-ltb budget.frames (frames_of content) le_frames i then Err (errors.Limit limits.Frames) else Ok (Some (record { size = h.size; content = content })))))
+                    (block_done le_frames kept)
+                | inr lt ↦ subst (λ (x : Result (Option Block) NgError). BlockRead slot (place at s budget) (supply held a) (supply rest c) x)
+                    (sym (is ∙ (λ i. if lt-ltb budget.frames (frames_of content) lt i then Err (errors.Limit limits.Frames) else Ok (Some (record { size = h.size; content = content })))))
+                    (block_frames lt)
+              ]

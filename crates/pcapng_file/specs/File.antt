@@ -1,5 +1,5 @@
 -- A pcapng file, read block by block.
-use Rattle.std.specs.Prelude.{◌≡◌, ℕ, zero, suc, ◌+◌, ◌-◌, ◌*◌, ◌^◌, ◌<◌, ◌≤◌, Bool, not, IsTrue, ◌==◌, nat_lt, ◌&&◌, ◌⊎◌, if◌then◌else◌, List, [], ◌∷◌, ◌++◌, length, take, drop, Option, Some, None, is_some, Result, Ok, Err, IfOk, OnOk, OnErr, MatchOption}
+use Rattle.std.specs.Prelude.{◌≡◌, ◌≢◌, ℕ, zero, suc, ◌+◌, ◌-◌, ◌*◌, ◌^◌, ◌<◌, ◌≤◌, Bool, not, IsTrue, ◌==◌, nat_lt, ◌&&◌, ◌⊎◌, if◌then◌else◌, List, [], ◌∷◌, ◌++◌, length, take, drop, Option, Some, None, is_some, Result, Ok, Err, IfOk, OnOk, OnErr, MatchOption}
 use Rattle.fab_base.specs.Ending as ending
 use Rattle.fab_base.specs.Ending.{End, end_by, WhereSaid, SparesReads}
 use Rattle.fab_base.specs.Seen.{Seen, Reads}
@@ -12,6 +12,7 @@ use Rattle.pcapng_file.specs.declared.fault.NgLimit.TheVariants as limits
 use Rattle.pcapng_file.specs.declared.fault.NgError.{NgError}
 use Rattle.pcapng_file.specs.declared.fault.NgError.TheVariants as errors
 use Rattle.pcapng_file.specs.declared.block.Head.{Head}
+use Rattle.pcapng_file.specs.declared.block.Kind.TheVariants as kinds
 use Rattle.pcapng_file.specs.declared.block.Interface.{Interface}
 use Rattle.pcapng_file.specs.declared.packet.Content.{Content}
 use Rattle.pcapng_file.specs.declared.packet.Content.TheVariants as says
@@ -200,13 +201,24 @@ place at section left = record { at = at; section = section; left = left }
 abbrev pub Lacks : Section → List ℕ → List ℕ → Type 0
 Lacks s l left = (length l < HEAD + length left) ⊎ (length l < (head_at s l).size + length left)
 
--- one block from what is held and a slot, at a place of the file; the depot fails only while bytes of the block lack
+-- Memory is asked for behind the first 12 bytes of a block, where they stand there, are right, and the block is within the bytes that are
+-- left and isn't one that goes by. Where it is cut nothing behind them was taken.
+pub record AsksMemory (slot : ℕ) (here : Place) (old new : Supply) : Type 0 where
+  pub there : HEAD ≤ length (coming slot old)
+  pub right : head_read here.section.order (take HEAD (coming slot old)) ≡ Ok (head_at here.section (coming slot old))
+  pub room : (head_at here.section (coming slot old)).size ≤ here.left.bytes
+  pub held : (head_at here.section (coming slot old)).kind ≢ kinds.Other
+  pub cut : length (coming slot old) < (head_at here.section (coming slot old)).size → coming slot new ≡ drop HEAD (coming slot old)
+
+-- One block from what is held and a slot, at a place of the file. The depot fails only while bytes of the block lack, and want of memory
+-- stands for no fault that is found before memory is asked for.
 pub record BlockRead (slot : ℕ) (here : Place) (old new : Supply) (result : Result (Option Block) NgError) : Type 0 where
   pub reads : Reads (old.depot.name slot) old.depot new.depot
   pub tells : IsTrue old.depot.told → TellsRead (step_of here.left here.at here.section (coming slot old)) result
   pub behind : IsTrue old.depot.told → IfOk result (λ o. MatchOption o (coming slot old ≡ []) (λ b. (b.size ≤ length (coming slot old)) × (coming slot new ≡ drop b.size (coming slot old))))
   pub ended : IsTrue old.depot.told → IfOk result (λ o. MatchOption o (coming slot new ≡ []) (λ b. Unit {0}))
   pub fits : IfOk result (λ o. MatchOption o (Unit {0}) (λ b. (HEAD ≤ b.size) × (b.size ≤ here.left.bytes) × (frames_of b.content ≤ here.left.frames) × AreKept (found b.content)))
+  pub asks : IsTrue old.depot.told → result ≡ Err errors.Memory → AsksMemory slot here old new
   pub cause : (f : Failed) → result ≡ Err (errors.Read f) → ReadsRose slot old.depot new.depot
   pub waits : IsTrue old.depot.told → (f : Failed) → result ≡ Err (errors.Read f) → Lacks here.section (coming slot old) (new.depot.left slot)
   pub counts : SparesReads (end_by ng_end result) old.depot new.depot

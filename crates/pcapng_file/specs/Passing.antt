@@ -1,5 +1,5 @@
 -- Bytes of a block that go by without being held.
-use Rattle.std.specs.Prelude.{◌≡◌, ℕ, ◌+◌, ◌-◌, ◌≤◌, ◌<◌, IsTrue, List, [], ◌++◌, length, take, drop, Option, Result, Err, IfOk, OnOk, OnErr, MatchOption}
+use Rattle.std.specs.Prelude.{◌≡◌, ◌≢◌, ℕ, ◌+◌, ◌-◌, ◌≤◌, ◌<◌, IsTrue, List, [], ◌++◌, length, take, drop, Option, Result, Err, IfOk, OnOk, OnErr, MatchOption}
 use Rattle.fab_base.specs.Ending.{end_by, SparesReads}
 use Rattle.fab_base.specs.Seen.{Reads, SameReadFaults}
 use Rattle.fab_base.specs.declared.values.Failed.{Failed}
@@ -45,13 +45,14 @@ pub record HasSecond (slot : ℕ) (block : Begun) (old new : Supply) (result : R
   pub cause : OnErr result (ReadsRose slot old.depot new.depot)
   pub counts : OnOk result (SameReadFaults old.depot new.depot)
 
--- A block that goes by, within the bytes of every budget that has room for it.
+-- A block that goes by, within the bytes of every budget that has room for it. No memory is asked for.
 pub record PassesOver (slot at : ℕ) (block : Begun) (old new : Supply) (result : Result (Option Block) NgError) : Type 0 where
   pub reads : Reads (old.depot.name slot) old.depot new.depot
   pub tells : IsTrue old.depot.told → (budget : Budget) (faces : List Interface) → block.head.size ≤ budget.bytes → TellsRead (step_in budget at faces (from_front slot block old) block.head) result
   pub behind : IsTrue old.depot.told → let l = from_front slot block old in
       IfOk result (λ o. MatchOption o ⊥ (λ b. (b.size ≤ length l) × (coming slot new ≡ drop b.size l)))
   pub fits : IfOk result (λ o. MatchOption o ⊥ (λ b. (b.size ≡ block.head.size) × (frames_of b.content ≡ 0) × AreKept (found b.content)))
+  pub asks : result ≢ Err errors.Memory
   pub cause : (f : Failed) → result ≡ Err (errors.Read f) → ReadsRose slot old.depot new.depot
   pub waits : IsTrue old.depot.told → (f : Failed) → result ≡ Err (errors.Read f) → length (from_front slot block old) < block.head.size + length (new.depot.left slot)
   pub counts : SparesReads (end_by ng_end result) old.depot new.depot

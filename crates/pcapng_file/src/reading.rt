@@ -3,7 +3,7 @@ ghost use Rattle.std.specs.Prelude.{◌≡◌, ◌≤◌, ◌<◌, ◌+◌, ◌+
 ghost use Rattle.std.specs.Prelude.{length, IsTrue, OnOk, OnErr, IfOk, Some, ◌==◌, ◌&&◌, is_some};
 ghost use Rattle.pcap_file.specs.Reading.{supply};
 ghost use Rattle.pcapng_file.specs.File.{Section, NgReads, BlockRead, after, found, listed};
-ghost use Rattle.pcapng_file.specs.File.{before_all, place};
+ghost use Rattle.pcapng_file.specs.File.{before_all, place, counted};
 
 use crate::block::{HEAD, Interface, Kind, read_head};
 use crate::fault::{NgError, NgLimit, NgWhy, fault};
@@ -184,10 +184,16 @@ pub(crate) fn next_block<D: Depot>(
     }
     let block = concatenated(alloc, &front, &body)?;
     let content = read_block(alloc, at, head, &section.faces, &block)?;
+    within_frames(budget, head.size, content)
+}
+
+// A whole block, where a frame is left for the packet in it.
+fn within_frames(budget: Budget, size: u32, content: Content) -> Result<Option<Block>, NgError>
+    ensures { result ≡ counted budget size content }
+{
     if budget.frames < content.frames() {
         return Err(NgError::Limit(NgLimit::Frames));
     }
-    let size = head.size;
     Ok(Some(Block { size, content }))
 }
 

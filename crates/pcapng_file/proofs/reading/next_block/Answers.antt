@@ -6,7 +6,7 @@ use Rattle.std.proofs.lemmas.List.{take_at}
 use Rattle.pcapng_file.specs.declared.fault.NgError.TheVariants as errors
 use Rattle.pcapng_file.specs.Block.{head_read, body_read}
 use Rattle.pcapng_file.specs.File.{Section, TellsRead, at_fault}
-use Rattle.pcapng_file.proofs.StepLemmas.{block_end, block_short, block_bad, block_bytes, block_passed, block_cut, block_err, block_frames, block_done, block_unread_body, block_refused, handed_on}
+use Rattle.pcapng_file.proofs.StepLemmas.{block_end, block_short, block_bad, block_bytes, block_passed, block_cut, block_err, block_counted, block_unread_body, block_unheld, block_refused, handed_on, not_other}
 use Rattle.pcapng_file.proofs.reading.next_block.Goals as goal
 
 pub returns-then-is_end : goal.returns-then-is_end
@@ -39,10 +39,13 @@ returns-in-Err-pull g c =
     let sized = c.pull-2.auto.into ∙ c.deref_mut.ensures.len ∙ c.in_ok-body.ensures.len in
     record { reads = block_unread_body c.args.slot _ _ _ _ c.pull.new.into c.in-Ok.got c.args.budget c.args.at c.args.section.now c.pull.auto.into c.in-Ok.ensures.pulls (omega arith) c.in-Ok-read_head.head (ap (λ (s : Section). head_read s.order c.pull.new.into) (sym c.section.view_is) ∙ sym c.in-Ok-read_head.ensures.exact) _ c.pull-2.new.self c.pull-2.new.into c.requires.input c.if-budget-head.false (omega (arith, c.in-Ok-read_head.ensures.least)) sized c.in-Err-pull.failed c.in-Err-pull.ensures.pulls }
 
+pub returns-in_err-body : goal.returns-in_err-body
+returns-in_err-body g c = record { reads = handed_on c.from_residual.result errors.Memory c.from_residual.ensures.1 (block_unheld c.args.slot _ _ _ _ c.pull.new.into c.in-Ok.got c.args.budget c.args.at c.args.section.now c.pull.auto.into c.in-Ok.ensures.pulls (omega arith) c.in-Ok-read_head.head (ap (λ (s : Section). head_read s.order c.pull.new.into) (sym c.section.view_is) ∙ sym c.in-Ok-read_head.ensures.exact) c.if-budget-head.false (not_other _ (sym c.eq.ensures ∙ c.if-eq.false))) }
+
 pub returns-in_err-block : goal.returns-in_err-block
 returns-in_err-block g c =
     let sized = c.pull-2.auto.into ∙ c.deref_mut.ensures.len ∙ c.in_ok-body.ensures.len in
-    record { reads = handed_on c.from_residual-in_err-block.result errors.Memory c.from_residual-in_err-block.ensures.1 (block_refused c.args.slot _ _ _ _ c.pull.new.into c.in-Ok.got c.args.budget c.args.at c.args.section.now c.pull.auto.into c.in-Ok.ensures.pulls (omega arith) c.in-Ok-read_head.head (ap (λ (s : Section). head_read s.order c.pull.new.into) (sym c.section.view_is) ∙ sym c.in-Ok-read_head.ensures.exact) _ c.pull-2.new.self c.pull-2.new.into c.requires.input c.if-budget-head.false (omega (arith, c.in-Ok-read_head.ensures.least)) sized c.in-Ok-pull.got c.in-Ok-pull.ensures.pulls) }
+    record { reads = handed_on c.from_residual-in_err-block.result errors.Memory c.from_residual-in_err-block.ensures.1 (block_refused c.args.slot _ _ _ _ c.pull.new.into c.in-Ok.got c.args.budget c.args.at c.args.section.now c.pull.auto.into c.in-Ok.ensures.pulls (omega arith) c.in-Ok-read_head.head (ap (λ (s : Section). head_read s.order c.pull.new.into) (sym c.section.view_is) ∙ sym c.in-Ok-read_head.ensures.exact) _ c.pull-2.new.self c.pull-2.new.into c.requires.input c.if-budget-head.false (omega (arith, c.in-Ok-read_head.ensures.least)) sized c.in-Ok-pull.got c.in-Ok-pull.ensures.pulls (omega (arith, sized, c.len.ensures, c.in_ok-body.ensures.len)) (not_other _ (sym c.eq.ensures ∙ c.if-eq.false))) }
 
 pub returns-then-got-len : goal.returns-then-got-len
 returns-then-got-len g c =
@@ -57,15 +60,7 @@ returns-in_err-content g c =
     let made = c.deref-3.ensures.value ∙ c.in_ok-block.ensures ∙ ap (λ (b : List ℕ). c.pull.new.into ++ b) (c.deref.ensures.value ∙ take_at c.pull-2.new.into _ _ (sized ∙ sym c.in_ok-body.ensures.len)) in
     let e = c.in_err-content.field-0.0 in
     record {
-      reads = handed_on c.from_residual-in_err-content.result e c.from_residual-in_err-content.ensures.1 (block_err c.args.slot _ _ _ _ c.pull.new.into c.in-Ok.got c.args.budget c.args.at c.args.section.now c.pull.auto.into c.in-Ok.ensures.pulls (omega arith) c.in-Ok-read_head.head (ap (λ (s : Section). head_read s.order c.pull.new.into) (sym c.section.view_is) ∙ sym c.in-Ok-read_head.ensures.exact) _ c.pull-2.new.self c.pull-2.new.into c.requires.input c.if-budget-head.false (omega (arith, c.in-Ok-read_head.ensures.least)) sized c.in-Ok-pull.got c.in-Ok-pull.ensures.pulls (omega (arith, sized, c.len.ensures, c.in_ok-body.ensures.len)) c.deref-3.result.now made e c.in_err-content.ensures.own (subst (λ (f : List Interface). TellsRead {A = Content} (at_fault c.args.at (body_read c.in-Ok-read_head.head f c.deref-3.result.now)) (Err e)) (c.deref-2.ensures.value ∙ ap (λ (s : Section). s.faces) c.section.view_is) c.in_err-content.ensures.tells));
-    }
-
-pub returns-then-budget-frames : goal.returns-then-budget-frames
-returns-then-budget-frames g c =
-    let sized = c.pull-2.auto.into ∙ c.deref_mut.ensures.len ∙ c.in_ok-body.ensures.len in
-    let made = c.deref-3.ensures.value ∙ c.in_ok-block.ensures ∙ ap (λ (b : List ℕ). c.pull.new.into ++ b) (c.deref.ensures.value ∙ take_at c.pull-2.new.into _ _ (sized ∙ sym c.in_ok-body.ensures.len)) in
-    record {
-      reads = block_frames c.args.slot _ _ _ _ c.pull.new.into c.in-Ok.got c.args.budget c.args.at c.args.section.now c.pull.auto.into c.in-Ok.ensures.pulls (omega arith) c.in-Ok-read_head.head (ap (λ (s : Section). head_read s.order c.pull.new.into) (sym c.section.view_is) ∙ sym c.in-Ok-read_head.ensures.exact) _ c.pull-2.new.self c.pull-2.new.into c.requires.input c.if-budget-head.false (omega (arith, c.in-Ok-read_head.ensures.least)) sized c.in-Ok-pull.got c.in-Ok-pull.ensures.pulls (omega (arith, sized, c.len.ensures, c.in_ok-body.ensures.len)) c.deref-3.result.now made c.in_ok-content.content (ap (λ (f : List Interface). at_fault c.args.at (body_read c.in-Ok-read_head.head f c.deref-3.result.now)) (sym (c.deref-2.ensures.value ∙ ap (λ (s : Section). s.faces) c.section.view_is)) ∙ c.in_ok-content.ensures.tells) (omega (arith, c.frames.ensures.value));
+      reads = handed_on c.from_residual-in_err-content.result e c.from_residual-in_err-content.ensures.1 (block_err c.args.slot _ _ _ _ c.pull.new.into c.in-Ok.got c.args.budget c.args.at c.args.section.now c.pull.auto.into c.in-Ok.ensures.pulls (omega arith) c.in-Ok-read_head.head (ap (λ (s : Section). head_read s.order c.pull.new.into) (sym c.section.view_is) ∙ sym c.in-Ok-read_head.ensures.exact) _ c.pull-2.new.self c.pull-2.new.into c.requires.input c.if-budget-head.false (omega (arith, c.in-Ok-read_head.ensures.least)) sized c.in-Ok-pull.got c.in-Ok-pull.ensures.pulls (omega (arith, sized, c.len.ensures, c.in_ok-body.ensures.len)) c.deref-3.result.now made (not_other _ (sym c.eq.ensures ∙ c.if-eq.false)) e c.in_err-content.ensures.own (subst (λ (f : List Interface). TellsRead {A = Content} (at_fault c.args.at (body_read c.in-Ok-read_head.head f c.deref-3.result.now)) (Err e)) (c.deref-2.ensures.value ∙ ap (λ (s : Section). s.faces) c.section.view_is) c.in_err-content.ensures.tells));
     }
 
 pub returns : goal.returns
@@ -73,5 +68,5 @@ returns g c =
     let sized = c.pull-2.auto.into ∙ c.deref_mut.ensures.len ∙ c.in_ok-body.ensures.len in
     let made = c.deref-3.ensures.value ∙ c.in_ok-block.ensures ∙ ap (λ (b : List ℕ). c.pull.new.into ++ b) (c.deref.ensures.value ∙ take_at c.pull-2.new.into _ _ (sized ∙ sym c.in_ok-body.ensures.len)) in
     record {
-      reads = block_done c.args.slot _ _ _ _ c.pull.new.into c.in-Ok.got c.args.budget c.args.at c.args.section.now c.pull.auto.into c.in-Ok.ensures.pulls (omega arith) c.in-Ok-read_head.head (ap (λ (s : Section). head_read s.order c.pull.new.into) (sym c.section.view_is) ∙ sym c.in-Ok-read_head.ensures.exact) _ c.pull-2.new.self c.pull-2.new.into c.requires.input c.if-budget-head.false (omega (arith, c.in-Ok-read_head.ensures.least)) sized c.in-Ok-pull.got c.in-Ok-pull.ensures.pulls (omega (arith, sized, c.len.ensures, c.in_ok-body.ensures.len)) c.deref-3.result.now made c.in_ok-content.content (ap (λ (f : List Interface). at_fault c.args.at (body_read c.in-Ok-read_head.head f c.deref-3.result.now)) (sym (c.deref-2.ensures.value ∙ ap (λ (s : Section). s.faces) c.section.view_is)) ∙ c.in_ok-content.ensures.tells) (omega (arith, c.frames.ensures.value)) c.in_ok-content.ensures.kept;
+      reads = block_counted c.args.slot _ _ _ _ c.pull.new.into c.in-Ok.got c.args.budget c.args.at c.args.section.now c.pull.auto.into c.in-Ok.ensures.pulls (omega arith) c.in-Ok-read_head.head (ap (λ (s : Section). head_read s.order c.pull.new.into) (sym c.section.view_is) ∙ sym c.in-Ok-read_head.ensures.exact) _ c.pull-2.new.self c.pull-2.new.into c.requires.input c.if-budget-head.false (omega (arith, c.in-Ok-read_head.ensures.least)) sized c.in-Ok-pull.got c.in-Ok-pull.ensures.pulls (omega (arith, sized, c.len.ensures, c.in_ok-body.ensures.len)) c.deref-3.result.now made c.in_ok-content.content (ap (λ (f : List Interface). at_fault c.args.at (body_read c.in-Ok-read_head.head f c.deref-3.result.now)) (sym (c.deref-2.ensures.value ∙ ap (λ (s : Section). s.faces) c.section.view_is)) ∙ c.in_ok-content.ensures.tells) c.in_ok-content.ensures.kept c.within_frames.result c.within_frames.ensures;
     }
