@@ -2,17 +2,15 @@
 use Rattle.std.proofs.Common.{◌≡◌, ℕ, ◌+◌, ◌<◌, ◌≤◌, Bool, true, false, List, [], ◌∷◌, ◌++◌, length, length-append, Option, Some, None, Ok, Err, refl, sym, ◌∙◌, ap, subst, append-nil, append_assoc, arith}
 use Rattle.std.specs.Prelude.{◌==◌}
 use Rattle.std.specs.Io.BufRead.{take_through}
-use Rattle.fab_policy.specs.Spelling.{Spells, IsClockOf, EndsAscend, IsRangedLine, line_text}
+use Rattle.fab_policy.specs.Spelling.{IsClockOf, EndsAscend, IsRangedLine, line_text}
 use Rattle.fab_policy.specs.Text.{head_line, line}
 use Rattle.fab_policy.specs.declared.event.Event.{Event}
 use Rattle.fab_policy.specs.declared.event.Event.TheVariants as event
 use Rattle.fab_policy.specs.declared.line.Format.TheVariants.{One, Two}
 use Rattle.fab_policy.specs.declared.line.Line.{Line}
 use Rattle.fab_policy.specs.declared.line.Line.TheVariants.{Tick, Frame}
-use Rattle.fab_policy.specs.declared.reading.LineError.{LineError}
-use Rattle.fab_policy.specs.declared.reading.LineError.TheVariants as unread
 use Rattle.fab_migrate.specs.Old.{lines_text, clock_after, clock_behind, MayCome, AllCome, clocked, all_clocked, new_text, HasFirstFault}
-use Rattle.fab_migrate.specs.OldWords.{AddsLine, Rewrites, entry_of, refusal_by, old_fault_by}
+use Rattle.fab_migrate.specs.OldWords.{AddsLine, Rewrites, entry_of, old_fault_by}
 use Rattle.fab_migrate.specs.declared.old.OldWhy.{OldWhy}
 use Rattle.fab_migrate.specs.declared.old.OldWhy.TheVariants as why
 use Rattle.fab_migrate.specs.declared.old.Refused.{Refused}
@@ -114,11 +112,6 @@ module _ (text rest out : List ℕ) (clock : Option ℕ) (count : ℕ) (so : Old
     pub old_refused : (more : List ℕ) (number : ℕ) (x : Refused) → number ≡ count + 1 → 0 < length line → AddsLine clock line out more (Err x) → Rewrites text (Err (old_fault_by x number))
     old_refused more number (refused.Fault w) is some adds = old_fault more number w is some adds
     old_refused more number refused.Memory is some adds = tt
-
--- a text that can't be read as a line isn't added
-pub line_unread : (clock : Option ℕ) (text out : List ℕ) (e : LineError) → (e ≡ unread.Fault → (l : Line) → Spells One text l → ⊥) → AddsLine clock text out out (Err (refusal_by e))
-line_unread clock text out unread.Fault none = none refl
-line_unread clock text out unread.Memory none = tt
 
 pub some_left : (l : List ℕ) (b : Bool) → b ≡ (length l == 0) → b ≡ false → 0 < length l
 some_left [] b is empty = let all : b ≡ true = is in absurd (cc)

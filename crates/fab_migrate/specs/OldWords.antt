@@ -1,5 +1,5 @@
 -- A file that is read whole, and words of private contracts alone.
-use Rattle.std.specs.Prelude.{◌≡◌, ℕ, true, List, [], ◌++◌, length, Option, Some, None, Result, Ok, Err, Vec}
+use Rattle.std.specs.Prelude.{◌≡◌, ℕ, true, List, [], ◌++◌, length, Option, Some, Result, Ok, Err, Vec}
 use Rattle.std.specs.declared.alloc.Global.{Global}
 use Rattle.fab_base.specs.Seen.{Seen}
 use Rattle.fab_base.specs.Whole as base
@@ -14,6 +14,7 @@ use Rattle.fab_policy.specs.declared.reading.LineError.{LineError}
 use Rattle.fab_policy.specs.declared.reading.LineError.TheVariants as unread
 use Rattle.fab_policy.specs.declared.line.Line.TheVariants.{Tick, Frame}
 use Rattle.fab_migrate.specs.Old.{IsOld, HasFirstFault, MayCome, clock_after, clocked, new_text}
+use Rattle.fab_migrate.specs.declared.old.OldWhy.{OldWhy}
 use Rattle.fab_migrate.specs.declared.old.OldWhy.TheVariants as why
 use Rattle.fab_migrate.specs.declared.old.OldError.{OldError}
 use Rattle.fab_migrate.specs.declared.old.OldError.TheVariants as errors
@@ -26,10 +27,11 @@ abbrev pub entry_of : Line → Event
 entry_of (Tick m ended) = event.Tick m ended
 entry_of (Frame port index verdict at) = event.Frame port index (record { bytes = []; whole = true }) verdict
 
--- the clock behind a line that may come, or none where it may not
-abbrev pub Admits : Option ℕ → Line → Option ℕ → Type 0
-Admits clock l None = MayCome clock l → ⊥
-Admits clock l (Some t) = MayCome clock l × (clock_after clock l ≡ Some t)
+-- the clock behind a line that may come, or that it may not
+abbrev pub Admits : Option ℕ → Line → Result ℕ OldWhy → Type 0
+Admits clock l (Ok t) = MayCome clock l × (clock_after clock l ≡ Some t)
+Admits clock l (Err why.Tick) = MayCome clock l → ⊥
+Admits clock l (Err why.Text) = ⊥
 
 -- A text that spells a line which may come was appended in format 2, and this is the clock behind it; or nothing was.
 abbrev pub AddsLine : Option ℕ → List ℕ → List ℕ → List ℕ → Result ℕ Refused → Type 0

@@ -29,14 +29,8 @@ pub fn migrate<D: Depot>(
         Ok(slot) => slot,
         Err(failed) => return Err(MigrateError::Input(OldError::Read(failed))),
     };
-    let text = match read_whole(alloc, depot, slot, limit) {
-        Ok(text) => text,
-        Err(error) => return Err(MigrateError::Input(error)),
-    };
-    let new = match in_format_two(alloc, &text) {
-        Ok(new) => new,
-        Err(error) => return Err(MigrateError::Input(error)),
-    };
+    let text = read_whole(alloc, depot, slot, limit)?;
+    let new = in_format_two(alloc, &text)?;
     let out = match depot.open_out(to) {
         Ok(out) => out,
         Err(failed) => return Err(MigrateError::Write(failed)),

@@ -2,7 +2,7 @@
 ghost use Rattle.std.specs.Prelude.{◌≡◌, ◌≤◌, ◌<◌, length, take};
 ghost use Rattle.fab_policy.specs.Spelling.{IsRangedLine};
 ghost use Rattle.fab_migrate.specs.OldWords.{AddsLine, Admits, Rewrites, entry_of};
-ghost use Rattle.fab_migrate.specs.OldWords.{old_fault_by, refusal_by};
+ghost use Rattle.fab_migrate.specs.OldWords.{old_fault_by};
 ghost use Rattle.std.specs.Io.BufRead.{take_through};
 
 use fab_base::{Bytes, Caught, Failed, Moment, NoMemory};
@@ -58,6 +58,17 @@ pub enum MigrateError {
     Write(Failed),
 }
 
+impl From<OldError> for MigrateError {
+    ghost use Rattle.std.specs.Prelude.{◌≡◌};
+    ghost use Rattle.fab_migrate.specs.declared.old.MigrateError.TheVariants.{Input};
+
+    ghost from_gives = { λ error e. e ≡ Input error };
+
+    fn from(error: OldError) -> MigrateError {
+        MigrateError::Input(error)
+    }
+}
+
 // A journal in format 2, and how many entries it has.
 #[derive(Debug, Drop)]
 pub(crate) struct Rewritten {
@@ -70,6 +81,42 @@ pub(crate) struct Rewritten {
 pub(crate) enum Refused {
     Fault(OldWhy),
     Memory,
+}
+
+impl From<OldWhy> for Refused {
+    ghost use Rattle.std.specs.Prelude.{◌≡◌};
+    ghost use Rattle.fab_migrate.specs.declared.old.Refused.TheVariants.{Fault};
+
+    ghost from_gives = { λ why e. e ≡ Fault why };
+
+    fn from(why: OldWhy) -> Refused {
+        Refused::Fault(why)
+    }
+}
+
+impl From<LineError> for Refused {
+    ghost use Rattle.std.specs.Prelude.{◌≡◌};
+    ghost use Rattle.fab_migrate.specs.OldWords.{refusal_by};
+
+    ghost from_gives = { λ error e. e ≡ refusal_by error };
+
+    fn from(error: LineError) -> Refused {
+        match error {
+            LineError::Fault => Refused::Fault(OldWhy::Text),
+            LineError::Memory => Refused::Memory,
+        }
+    }
+}
+
+impl From<NoMemory> for Refused {
+    ghost use Rattle.std.specs.Prelude.{◌≡◌};
+    ghost use Rattle.fab_migrate.specs.declared.old.Refused.TheVariants.{Memory};
+
+    ghost from_gives = { λ _ e. e ≡ Memory };
+
+    fn from(_refused: NoMemory) -> Refused {
+        Refused::Memory
+    }
 }
 
 // The journal of a text of format 1 in format 2, or the text's first fault.
@@ -129,45 +176,28 @@ fn add_line(
 ) -> Result<Moment, Refused>
     ensures adds { AddsLine clock line.now out.old.items out.new.items result }
 {
-    let line = match read_line(alloc, Format::One, line) {
-        Ok(line) => line,
-        Err(error) => return Err(line_refusal(error)),
-    };
-    let Some(now) = clock_at(clock, &line) else {
-        return Err(Refused::Fault(OldWhy::Tick));
-    };
-    match write_line(alloc, now, &entry(alloc, line), out) {
-        Ok(()) => Ok(now),
-        Err(NoMemory) => Err(Refused::Memory),
-    }
+    let line = read_line(alloc, Format::One, line)?;
+    let now = clock_at(clock, &line)?;
+    write_line(alloc, now, &entry(alloc, line), out)?;
+    Ok(now)
 }
 
-// Why a text that can't be read as a line isn't added.
-fn line_refusal(error: LineError) -> Refused
-    ensures { result ≡ refusal_by error }
-{
-    match error {
-        LineError::Fault => Refused::Fault(OldWhy::Text),
-        LineError::Memory => Refused::Memory,
-    }
-}
-
-// The clock behind a line, or none where the line may not come.
-fn clock_at(clock: Option<Moment>, line: &Line) -> Option<Moment>
+// The clock behind a line, where the line may come.
+fn clock_at(clock: Option<Moment>, line: &Line) -> Result<Moment, OldWhy>
     ensures { Admits clock line.now result }
 {
     match line {
         Line::Tick { moment, .. } => match clock {
             Some(before) => {
                 if *moment > before {
-                    Some(*moment)
+                    Ok(*moment)
                 } else {
-                    None
+                    Err(OldWhy::Tick)
                 }
             }
-            None => Some(*moment),
+            None => Ok(*moment),
         },
-        Line::Frame { .. } => clock,
+        Line::Frame { .. } => clock.ok_or(OldWhy::Tick),
     }
 }
 
