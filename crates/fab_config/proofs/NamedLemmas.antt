@@ -1,6 +1,6 @@
 -- Zones and zone sets, line by line.
-use Rattle.std.proofs.Common.{◌≡◌, ℕ, zero, suc, ◌+◌, ◌<◌, List, [], ◌∷◌, ◌++◌, Bool, true, false, not, cond, eqb, ltb, ◌&&◌, Option, Some, None, Result, Err, take, slice_get, Ordering, Less, Equal, Greater, refl, sym, ◌∙◌, ap, arith}
-use Rattle.std.specs.Option.{option_map, option_and_then, is_some}
+use Rattle.std.proofs.Common.{◌≡◌, ℕ, zero, suc, ◌+◌, ◌<◌, List, [], ◌∷◌, ◌++◌, Bool, true, false, not, cond, eqb, ltb, ◌&&◌, Option, Some, None, Result, Ok, Err, take, slice_get, Ordering, Less, Equal, Greater, refl, sym, ◌∙◌, ap, arith}
+use Rattle.std.specs.Option.{option_map, option_and_then, is_some, ok_or}
 use Rattle.std.specs.List.{list_any}
 use Rattle.std.specs.Ordering.{MatchOrdering, is_ge, nat_cmp}
 use Rattle.std.proofs.lemmas.Cmp.{ranked}
@@ -9,8 +9,8 @@ use Rattle.std.proofs.lemmas.List.Folds.{list_all-append}
 use Rattle.std.proofs.lemmas.Bool.{lt-ltb, le-ltb, and_from, and_right}
 use Rattle.fab_config.specs.Settings.{is_zone_name}
 use Rattle.fab_config.specs.Names.{place}
-use Rattle.fab_config.specs.Values.{all_of, once_from, once_more, zone_name}
-use Rattle.fab_config.specs.Text.{listed, named_list, with_name, named_put, with_named, is_later}
+use Rattle.fab_config.specs.Values.{all_of, once, once_from, once_more, zone_name}
+use Rattle.fab_config.specs.Text.{each_once, listed, named_list, with_name, named_put, with_named, is_later}
 use Rattle.fab_config.specs.declared.Activation.{Activation}
 use Rattle.fab_config.specs.declared.ConfigWhy.{ConfigWhy}
 use Rattle.fab_config.specs.declared.ConfigWhy.TheVariants as why
@@ -38,6 +38,25 @@ module _ (says : List ℕ → Option ℕ) where
           ap (λ b. Some (acc ++ cond b (once_from acc xs) (x ∷ once_from (acc ++ x ∷ []) xs))) f
           ∙ ap (λ (m : List ℕ). Some m) (sym (append_assoc acc (x ∷ []) (once_from (acc ++ x ∷ []) xs)))
           ∙ sym (ap (λ b. Some (cond b acc (acc ++ x ∷ []) ++ once_from (cond b acc (acc ++ x ∷ [])) xs)) f)
+
+  -- the number that a word says
+  pub said : (w : List ℕ) (x : ℕ) → Ok x ≡ ok_or (says w) why.Value → says w ≡ Some x
+  said w x e = by (says w) e
+    where
+      by : (o : Option ℕ) → ◌≡◌ {A = Result ℕ ConfigWhy} (Ok x) (ok_or o why.Value) → o ≡ Some x
+      by None f = absurd (cc)
+      by (Some y) f = cc
+
+  -- a word that says none is a fault of all
+  pub unsaid : (acc w : List ℕ) (ws all : List (List ℕ)) (v : ConfigWhy) → option_map once (all_of says all) ≡ joined acc (all_of says (w ∷ ws)) → Err v ≡ ok_or (says w) why.Value → each_once says all ≡ Err v
+  unsaid acc w ws all v on e = by (says w) refl e
+    where
+      by : (o : Option ℕ) → says w ≡ o → ◌≡◌ {A = Result ℕ ConfigWhy} (Err v) (ok_or o why.Value) → each_once says all ≡ Err v
+      by None f g =
+          let none : option_map once (all_of says all) ≡ None = on ∙ ap (λ (o : Option ℕ). joined acc (option_and_then (λ (x : ℕ). option_map (λ (xs : List ℕ). x ∷ xs) (all_of says ws)) o)) f in
+          let is : v ≡ why.Value = cc in
+          ap (λ (o : Option (List ℕ)). ok_or o why.Value) none ∙ ap (λ (u : ConfigWhy). Err u) (sym is)
+      by (Some x) f g = absurd (cc)
 
   -- ---- a list, which has one item at least
 

@@ -99,10 +99,13 @@ listed says [] = None
 listed says (w ∷ ws) = option_map once (all_of says (w ∷ ws))
 
 -- a list that was read, which has one item at least
-abbrev pub one_at_least : {X : Type 0} → Option (List X) → Result (List X) ConfigWhy
-one_at_least None = Err Value
-one_at_least (Some []) = Err Value
-one_at_least (Some (x ∷ xs)) = Ok (x ∷ xs)
+abbrev pub one_at_least : {X : Type 0} → List X → Result (List X) ConfigWhy
+one_at_least [] = Err Value
+one_at_least (x ∷ xs) = Ok (x ∷ xs)
+
+-- what each of some words says, each of which counts once, or that one says nothing
+abbrev pub each_once : (List ℕ → Option ℕ) → List (List ℕ) → Result (List ℕ) ConfigWhy
+each_once says ws = ok_or (option_map once (all_of says ws)) Value
 
 -- what words list, or that the line has no value
 abbrev pub listed_or_fault : (List ℕ → Option ℕ) → List (List ℕ) → Result (List ℕ) ConfigWhy

@@ -3,6 +3,7 @@ ghost use Rattle.std.specs.Prelude.{◌≡◌, ◌<◌, ◌+◌, ℕ, List, ◌�
 ghost use Rattle.std.specs.Prelude.{Result, Ok, Err, IfErr, IfOk, IfSome, OnOk, MatchResult, true};
 ghost use Rattle.std.specs.Prelude.{length, map, option_map, sum_by};
 ghost use Rattle.std.specs.List.{list_all};
+ghost use Rattle.std.specs.Option.{ok_or};
 ghost use Rattle.fab_config.specs.Lines.{words};
 ghost use Rattle.fab_config.specs.Names.{place};
 ghost use Rattle.fab_config.specs.Values as spec;
@@ -11,7 +12,7 @@ ghost use Rattle.fab_config.specs.Settings.{is_letter as is_letter_spec};
 ghost use Rattle.fab_config.specs.Settings.{is_name_sign as is_name_sign_spec};
 ghost use Rattle.fab_config.specs.Text.{grown, one_at_least, with_named, zones_with, sets_with};
 ghost use Rattle.fab_config.specs.Text.{activations_with, activation, is_later as is_later_spec};
-ghost use Rattle.fab_config.specs.Text.{listed, listed_or_fault, zone_place};
+ghost use Rattle.fab_config.specs.Text.{each_once, listed, listed_or_fault, zone_place};
 ghost use Rattle.fab_config.specs.Told.{Answers, Leaves, Tells};
 
 use crate::hexes::read_name;
@@ -236,36 +237,41 @@ fn read_members(alloc: Global, values: &[u8]) -> Result<NameList, LineError>
     ensures { MatchResult result (λ m. listed spec.name (words values.now) ≡ Some m)
         (λ e. Tells e (listed_or_fault spec.name (words values.now))) }
 {
-    let members = one_at_least(read_names(alloc, values)?)?;
-    Ok(members)
+    let members = read_names(alloc, values)?;
+    Ok(one_at_least(members)?)
 }
 
 // A list that was read, which has one item at least.
-fn one_at_least<T: Drop>(list: Option<OwnedList<T>>) -> Result<OwnedList<T>, ConfigWhy>
+fn one_at_least<T: Drop>(list: OwnedList<T>) -> Result<OwnedList<T>, ConfigWhy>
     ensures { result ≡ one_at_least list }
 {
-    match list {
-        Some(list) if list.len() > 0 => Ok(list),
-        _ => Err(ConfigWhy::Value),
+    if list.len() > 0 {
+        Ok(list)
+    } else {
+        Err(ConfigWhy::Value)
     }
 }
 
-// The names of words, if each is one.
-fn read_names(alloc: Global, values: &[u8]) -> Result<Option<NameList>, NoMemory>
-    ensures { IfOk result (λ o. o
-        ≡ option_map spec.once (spec.all_of spec.name (words values.now))) }
+// The names of words, each of which is one.
+fn read_names(alloc: Global, values: &[u8]) -> Result<NameList, LineError>
+    ensures { Answers result (each_once spec.name (words values.now)) }
 {
     let mut members = NameList::new(alloc)?;
     let mut seen = NumberIndex::new(alloc);
     let mut rest = values;
     while let Some((word, more)) = next_word(rest) {
-        let Some(name) = read_name(word) else {
-            return Ok(None);
-        };
+        let name = read_member(word)?;
         add_name(alloc, &mut members, &mut seen, name)?;
         rest = more;
     }
-    Ok(Some(members))
+    Ok(members)
+}
+
+// The name of a zone's member.
+fn read_member(word: &[u8]) -> Result<Wwn, ConfigWhy>
+    ensures { result ≡ ok_or (spec.name word.now) ConfigWhy.Value }
+{
+    read_name(word).ok_or(ConfigWhy::Value)
 }
 
 // Appends a name unless it is there.
@@ -292,30 +298,30 @@ fn read_zones(alloc: Global, zones: &NamedZones, values: &[u8]) -> Result<PlaceL
         MatchResult result (λ m. listed says (words values.now) ≡ Some m)
         (λ e. Tells e (listed_or_fault says (words values.now))) }
 {
-    let places = one_at_least(read_places(alloc, zones, values)?)?;
-    Ok(places)
+    let places = read_places(alloc, zones, values)?;
+    Ok(one_at_least(places)?)
 }
 
-// The places of the zones of these names, if each is the name of one.
-fn read_places(
-    alloc: Global,
-    zones: &NamedZones,
-    values: &[u8],
-) -> Result<Option<PlaceList>, NoMemory>
-    ensures { IfOk result (λ o. o
-        ≡ option_map spec.once (spec.all_of (zone_place zones.now) (words values.now))) }
+// The places of the zones of these names, each of which is the name of one.
+fn read_places(alloc: Global, zones: &NamedZones, values: &[u8]) -> Result<PlaceList, LineError>
+    ensures { Answers result (each_once (zone_place zones.now) (words values.now)) }
 {
     let mut places = PlaceList::new(alloc)?;
     let mut seen = NumberIndex::new(alloc);
     let mut rest = values;
     while let Some((word, more)) = next_word(rest) {
-        let Some(place) = zones.place(word) else {
-            return Ok(None);
-        };
+        let place = read_place(zones, word)?;
         add_place(alloc, &mut places, &mut seen, place)?;
         rest = more;
     }
-    Ok(Some(places))
+    Ok(places)
+}
+
+// The place of the zone of this name.
+fn read_place(zones: &NamedZones, word: &[u8]) -> Result<u32, ConfigWhy>
+    ensures { result ≡ ok_or (zone_place zones.now word.now) ConfigWhy.Value }
+{
+    zones.place(word).ok_or(ConfigWhy::Value)
 }
 
 // Appends a place unless it is there.
