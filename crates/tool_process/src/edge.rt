@@ -60,7 +60,9 @@ impl<'a, R: Files> FileDepot<'a, R> {
     }
 
     /// What the names are to each other and to the standard output.
-    pub(crate) fn mix(&self) -> Mix {
+    pub(crate) fn mix(&self) -> Mix
+        ensures { result ≡ self.now.mix }
+    {
         self.mix
     }
 
