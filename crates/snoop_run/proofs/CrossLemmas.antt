@@ -1,5 +1,5 @@
 -- The outputs of a bridge while frames cross it.
-use Rattle.std.proofs.Common.{◌≡◌, ℕ, zero, suc, ◌+◌, ◌-◌, ◌^◌, ◌<◌, inl, inr, List, [], ◌∷◌, ◌++◌, length, take, drop, get_or, append_assoc, append-nil, Some, None, Ok, Err, IsTrue, refl, sym, ◌∙◌, ap, subst, arith}
+use Rattle.std.proofs.Common.{◌≡◌, ℕ, zero, suc, ◌+◌, ◌-◌, ◌^◌, ◌<◌, inl, inr, List, [], ◌∷◌, ◌++◌, length, take, drop, get_or, append_assoc, append-nil, Some, None, Ok, Err, IsTrue, refl, sym, ◌∙◌, ap, subst, arith, lit<}
 use Rattle.std.specs.Prelude.{Result, Vec, replicate, slice_set}
 use Rattle.std.specs.declared.alloc.Global.{Global}
 use Rattle.std.proofs.lemmas.List.{take-append-drop}
@@ -17,7 +17,7 @@ use Rattle.fip_snoop.specs.Snoop.{Remembers}
 use Rattle.fip_snoop.specs.declared.forwarder.Forwarder.{Forwarder}
 use Rattle.snoop_run.proofs.CopyLemmas.{records_go_on}
 use Rattle.run_files.specs.Outputs.{AreOutputs}
-use Rattle.run_files.specs.Pages.{items_in, piece_at}
+use Rattle.run_files.specs.Pages.{items_in, piece_at, AreShort}
 use Rattle.run_files.specs.declared.fault.RunFault.TheVariants as faults
 use Rattle.snoop_run.specs.Copies.{records_to, capture}
 use Rattle.snoop_run.specs.Records.{count_in}
@@ -47,6 +47,15 @@ length-zeros (suc n) = ap suc (length-zeros n)
 length-heads : (n : ℕ) → length (replicate n head_bytes) ≡ n
 length-heads zero = refl
 length-heads (suc n) = ap suc (length-heads n)
+
+-- pages of heads are short
+heads_short : (n : ℕ) → AreShort (replicate n head_bytes)
+heads_short zero q = lit< tt
+heads_short (suc n) zero = lit< tt
+heads_short (suc n) (suc q) = heads_short n q
+
+pub short_heads : (n : ℕ) (pages : List (List ℕ)) → pages ≡ replicate n head_bytes → AreShort pages
+short_heads n pages heads = subst AreShort (sym heads) (heads_short n)
 
 -- ---- between two frames
 

@@ -4,6 +4,7 @@ ghost use Rattle.std.specs.Prelude.{IfOk, OnOk, length, replicate, slice_index, 
 ghost use Rattle.fip_snoop.specs.Bridge as bridging;
 ghost use Rattle.fip_snoop.specs.Messages.{forwarder_of};
 ghost use Rattle.fip_snoop.specs.Queue.{AllAscend};
+ghost use Rattle.run_files.specs.Pages.{AreShort, items_in};
 ghost use Rattle.snoop_run.specs.Records.{AllFit, count_in};
 ghost use Rattle.snoop_run.specs.State.{IsFound, IsNew, IsNext, Passes, PassesNext};
 
@@ -43,8 +44,8 @@ impl Bridge {
         })
     }
 
-    /// Lets the next frame pass, which stands in the capture at a place. Where memory is refused
-    /// some pages may have it, and others not.
+    /// Lets the next frame pass, which stands in the capture at a place; pages that are full were
+    /// written before. Where memory is refused some pages may have it, and others not.
     pub(crate) fn pass_next(
         &mut self,
         alloc: Global,
@@ -57,6 +58,7 @@ impl Bridge {
         requires frames { count_in ins.now < 2 ^ 64 }
         requires room { self.old.passed + self.old.dropped < 2 ^ 64 - 1 }
         requires next { IsNext place ins.now self.old.places.items }
+        requires short { AreShort (items_in self.old.pages.items) }
         ensures passes { OnOk result (PassesNext ins.now self.old self.new) }
     {
         let found = next_record(ins, &self.places, place);
