@@ -1,6 +1,6 @@
 //! The clock: voices with their last moments, each at a place of its own, and the places by voice
 //! and by deadline.
-ghost use Rattle.std.specs.Prelude.{◌≡◌, ℕ, ◌+◌, ◌<◌, ◌≤◌, ◌^◌, ◌⊎◌, if◌then◌else◌, length, IfOk, IfSome, MatchOption, IfNone, Some, None, [], ◌∷◌, IsTrue, is_some, OnSome, ◌↔◌, IsPermutation};
+ghost use Rattle.std.specs.Prelude.{◌≡◌, ℕ, ◌+◌, ◌<◌, ◌≤◌, ◌^◌, ◌⊎◌, if◌then◌else◌, length, IfOk, IfSome, MatchOption, IfNone, Some, None, [], ◌∷◌, IsTrue, false, is_some, OnSome, ◌↔◌, IsPermutation};
 ghost use Rattle.keepalive_clock.specs.Voices.{same_voice};
 ghost use Rattle.keepalive_clock.specs.Clock.{last_of, count_with, without, HearsVoice, ForgetsVoice, KeepsLimits, IsSound};
 ghost use Rattle.keepalive_clock.specs.Order.{IsWhole};
@@ -112,6 +112,7 @@ impl KeepClock {
         ensures last { ForgetsVoice voice self.old.voices self.new.voices }
         ensures count { length self.new.voices + 1 ≡ count_with voice self.old.voices }
         ensures sound { IsSound self.new }
+        ensures absent { result ≡ false → self.new ≡ self.old }
     {
         self.remove_voice(&voice)
     }
@@ -169,6 +170,7 @@ impl KeepClock {
         ensures there { result ≡ is_some (last_of voice.now self.old.voices) }
         ensures voices { self.new ≡ record self.old { voices = without voice.now self.old.voices } }
         ensures sound { IsSound self.new }
+        ensures absent { result ≡ false → self.new ≡ self.old }
         ensures was_sound { IsSound self.old }
         ensures whole { IsWhole voice.now }
     {

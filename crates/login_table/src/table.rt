@@ -129,6 +129,7 @@ impl LoginTable {
         ensures login { result ≡ login_at address self.old.logins }
         ensures logins { self.new ≡ record self.old { logins = without address self.old.logins } }
         ensures sound { IsSound self.new }
+        ensures absent { result ≡ None → self.new ≡ self.old }
         ensures found { (a : ℕ) → login_at a self.new.logins
             ≡ (if address == a then None else login_at a self.old.logins) }
     {
