@@ -23,7 +23,7 @@ use Rattle.fab_live.specs.Live.{BeginsWithin, Stops, left_behind}
 use Rattle.fabric_tool.specs.Command.{LiveWords, Live}
 use Rattle.fabric_tool.specs.Ends.{Holds}
 use Rattle.fabric_tool.specs.Inputs.{HasConfig, HasFault, LIMITS, MOST_BYTES, MOST_FRAMES}
-use Rattle.fabric_tool.specs.Living.{HasLived, HasHalt, IsFaulty, IsNoPort, IsPast, live_end, LiveEnded, LiveForms, LiveSays, live_meaning}
+use Rattle.fabric_tool.specs.Living.{HasLived, HasHalt, IsFaulty, IsNoPort, IsPast, live_ending, LiveEnded, LiveForms, LiveSays, live_meaning}
 use Rattle.fabric_tool.specs.Outcome.{status_of, line_of}
 use Rattle.fabric_tool.specs.declared.outcome.Outcome.{Outcome}
 use Rattle.fabric_tool.specs.declared.outcome.Outcome.TheVariants as ends
@@ -354,7 +354,7 @@ module _ (k : LiveWords) (d : Seen) where
 
   module _ (new : Seen) (told : IsTrue d.told) where
     -- an outcome is done, what the inputs name, or want of memory
-    ended : (o : Outcome) → Said d (live_end k d new o) → ((frames : ℕ) × (entries : ℕ) × HasLived k frames entries d new × (o ≡ ends.Ran frames entries)) ⊎ (Finds o ⊎ (o ≡ ends.Memory))
+    ended : (o : Outcome) → Said d (live_ending k d new o) → ((frames : ℕ) × (entries : ℕ) × HasLived k frames entries d new × (o ≡ ends.Ran frames entries)) ⊎ (Finds o ⊎ (o ≡ ends.Memory))
     ended (ends.Ran frames entries) h = inl (frames, entries, h told, refl)
     ended (ends.Config fault) h = inr (inl (inl (fault, h told, refl)))
     ended (ends.BadStream at why) h = inr (inl (by_stop (IsFaulty at why) (errors.Fault at why) (λ c v l w. w) (h told).halt))
@@ -372,14 +372,14 @@ module _ (k : LiveWords) (d : Seen) where
         reached_whole (length k.outs) h.settings h.stream.bytes p h.packets (found_as p h.settings h.stream.bytes f c l)
         (whole_of h.packets h.stream.bytes h.stream.is h.stream.within) (record { faces = h.session.run.faces; span = h.session.run.span })
 
-    pub live_once : (o p : Outcome) → Said d (live_end k d new o) → LiveSays k d p → PrintsAlike o p ⊎ (o ≡ ends.Memory)
+    pub live_once : (o p : Outcome) → Said d (live_ending k d new o) → LiveSays k d p → PrintsAlike o p ⊎ (o ≡ ends.Memory)
     live_once o p holds says = elim (ended o holds) [
       | inl lived ↦ absurd (lived_not p lived.0 lived.1 lived.2 (said p says))
       | inr other ↦ elim other [ inl finds ↦ inl (alike o p (found_once o p finds (said p says))) | inr memory ↦ inr memory ]
     ]
 
     -- inputs of the right form end with status 0
-    pub live_formed : LiveForms k d → (o : Outcome) → Said d (live_end k d new o) → (status_of o ≡ 0) ⊎ (o ≡ ends.Memory)
+    pub live_formed : LiveForms k d → (o : Outcome) → Said d (live_ending k d new o) → (status_of o ≡ 0) ⊎ (o ≡ ends.Memory)
     live_formed forms o holds = elim (ended o holds) [
       | inl lived ↦ inl (ap status_of lived.3)
       | inr other ↦ elim other [

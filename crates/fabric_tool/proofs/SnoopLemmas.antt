@@ -30,7 +30,7 @@ use Rattle.fabric_tool.specs.Inputs.{HasConfig, HasFault, LIMITS}
 use Rattle.fabric_tool.specs.Opening.{stopped_by, crossed_by}
 use Rattle.fabric_tool.specs.Outcome.{status_of, line_of}
 use Rattle.fabric_tool.specs.Reading.{ConfigRead}
-use Rattle.fabric_tool.specs.Snooping.{HasSnooped, HasSnoopedFront, HasSnoopFront, IsCaptureUnread, IsSnoopStopped, snoop_end, SnoopEnded, SnoopForms, SnoopSays, crossing_of, snoop_meaning}
+use Rattle.fabric_tool.specs.Snooping.{HasSnooped, HasSnoopedFront, HasSnoopFront, IsCaptureUnread, IsSnoopStopped, snoop_ending, SnoopEnded, SnoopForms, SnoopSays, crossing_of, snoop_meaning}
 use Rattle.fabric_tool.specs.declared.outcome.Outcome.{Outcome}
 use Rattle.fabric_tool.specs.declared.outcome.Outcome.TheVariants as ends
 use Rattle.fabric_tool.proofs.EndingLemmas.{Left, Said, IsAnswer, less}
@@ -52,13 +52,13 @@ whole_captures k passes drops old new h =
       fronts = record { came = arrivals b.records; crosses = b.crosses; outputs = all_fronts old new k.outs (captures h.settings (length k.outs) (arrivals b.records)) b.outputs };
     }
 
-snoop_front : (k : SnoopNames) (old new : Seen) (o : Outcome) → Left (snoop_end k old new o) → HasSnoopFront k old new
+snoop_front : (k : SnoopNames) (old new : Seen) (o : Outcome) → Left (snoop_ending k old new o) → HasSnoopFront k old new
 snoop_front k old new (ends.Bridged passes drops) h = inr (whole_captures k passes drops old new h)
 snoop_front k old new ends.WriteFault h = inr h
 snoop_front k old new ends.Memory h = h
 snoop_front k old new o h = absurd h
 
-snoop_answered : (k : SnoopNames) (old new : Seen) (o : Outcome) → Holds (Snoop k) old new o → TakesMemory o → IsAnswer (snoop_end k old new o)
+snoop_answered : (k : SnoopNames) (old new : Seen) (o : Outcome) → Holds (Snoop k) old new o → TakesMemory o → IsAnswer (snoop_ending k old new o)
 snoop_answered k old new (ends.Bridged passes drops) h takes = tt
 snoop_answered k old new (ends.Config fault) h takes = tt
 snoop_answered k old new (ends.Capture port at reason) h takes = tt
@@ -132,7 +132,7 @@ module _ (k : SnoopNames) (d : Seen) where
 
   module _ (new : Seen) (told : IsTrue d.told) where
     -- an outcome is what the inputs name, or want of memory
-    ended : (o : Outcome) → Said d (snoop_end k d new o) → Finds k d o ⊎ (o ≡ ends.Memory)
+    ended : (o : Outcome) → Said d (snoop_ending k d new o) → Finds k d o ⊎ (o ≡ ends.Memory)
     ended (ends.Bridged passes drops) h = inl (crossed passes drops new (h told))
     ended (ends.Config fault) h = inl (inl (fault, h told, refl))
     ended (ends.Capture port at why) h = inl (refusal (gather.Capture port at why) (h told))
@@ -140,11 +140,11 @@ module _ (k : SnoopNames) (d : Seen) where
     ended ends.Memory h = inr refl
     ended o h = absurd h
 
-    snoop_once : (o p : Outcome) → Said d (snoop_end k d new o) → SnoopSays k d p → PrintsAlike o p ⊎ (o ≡ ends.Memory)
+    snoop_once : (o p : Outcome) → Said d (snoop_ending k d new o) → SnoopSays k d p → PrintsAlike o p ⊎ (o ≡ ends.Memory)
     snoop_once o p holds says = elim (ended o holds) [ inl finds ↦ inl (alike o p (found_once o p finds (said p says))) | inr memory ↦ inr memory ]
 
     -- inputs of the right form end with status 0
-    snoop_formed : SnoopForms k d → (o : Outcome) → Said d (snoop_end k d new o) → (status_of o ≡ 0) ⊎ (o ≡ ends.Memory)
+    snoop_formed : SnoopForms k d → (o : Outcome) → Said d (snoop_ending k d new o) → (status_of o ≡ 0) ⊎ (o ≡ ends.Memory)
     snoop_formed forms o holds =
         let L = history (forwarder_of forms.settings) [] forms.came in
         let p = ends.Bridged (passed L) (dropped L) in
@@ -164,7 +164,7 @@ pub snoop_laws : (k : SnoopNames) → Laws (snoop_meaning k)
 snoop_laws k = record {
   same = λ old new files. inl files;
   whole = snoop_front k;
-  spare = λ old new o h takes. less (snoop_meaning k) old new (HasSnoopFront k old new) (λ files. inl files) (snoop_end k old new o) (snoop_answered k old new o h takes) (snoop_front k old new o) h;
+  spare = λ old new o h takes. less (snoop_meaning k) old new (HasSnoopFront k old new) (λ files. inl files) (snoop_ending k old new o) (snoop_answered k old new o h takes) (snoop_front k old new o) h;
   done = done_snoop k;
   once = λ old new o p told. snoop_once k old new told o p;
   formed = λ old new o forms. snoop_formed k old new forms.told forms o;

@@ -120,26 +120,26 @@ IsUnread k old new =
     ⊎ (AnyRose old.read_faults new.read_faults (k.ins ++ k.outs) × Finds k old (λ c budget m. Unit {0}))))
 
 -- How one of them ends but with status 0. No output is opened, and want of memory hides no fault.
-abbrev pub check_end : RunNames → Seen → Seen → Outcome → Ending
-check_end k old new (ends.WrongLine line why) = Untouched (CheckSays k old (ends.WrongLine line why))
-check_end k old new (ends.WrongOutput port at) = Untouched (CheckSays k old (ends.WrongOutput port at))
-check_end k old new (ends.Config fault) = Untouched (CheckSays k old (ends.Config fault))
-check_end k old new (ends.Capture port at why) = Untouched (CheckSays k old (ends.Capture port at why))
-check_end k old new (ends.Limit kind) = Untouched (CheckSays k old (ends.Limit kind))
-check_end k old new ends.ReadFault = Unread (IsUnread k old new)
-check_end k old new ends.Memory = Untouched (Unit {0})
-check_end k old new _ = Never
+abbrev pub check_ending : RunNames → Seen → Seen → Outcome → Ending
+check_ending k old new (ends.WrongLine line why) = Untouched (CheckSays k old (ends.WrongLine line why))
+check_ending k old new (ends.WrongOutput port at) = Untouched (CheckSays k old (ends.WrongOutput port at))
+check_ending k old new (ends.Config fault) = Untouched (CheckSays k old (ends.Config fault))
+check_ending k old new (ends.Capture port at why) = Untouched (CheckSays k old (ends.Capture port at why))
+check_ending k old new (ends.Limit kind) = Untouched (CheckSays k old (ends.Limit kind))
+check_ending k old new ends.ReadFault = Unread (IsUnread k old new)
+check_ending k old new ends.Memory = Untouched (Unit {0})
+check_ending k old new _ = Never
 
 -- how `replay` ends
-abbrev pub replay_end : RunNames → Seen → Seen → Outcome → Ending
-replay_end k old new (ends.Legal entries) = Untouched (CheckSays k old (ends.Legal entries))
-replay_end k old new o = check_end k old new o
+abbrev pub replay_ending : RunNames → Seen → Seen → Outcome → Ending
+replay_ending k old new (ends.Legal entries) = Untouched (CheckSays k old (ends.Legal entries))
+replay_ending k old new o = check_ending k old new o
 
 -- how `show` ends, which has no outputs
-abbrev pub show_end : RunNames → Seen → Seen → Outcome → Ending
-show_end k old new (ends.Shown text) = Untouched (CheckSays k old (ends.Shown text))
-show_end k old new (ends.WrongOutput port at) = Untouched ⊥
-show_end k old new o = check_end k old new o
+abbrev pub show_ending : RunNames → Seen → Seen → Outcome → Ending
+show_ending k old new (ends.Shown text) = Untouched (CheckSays k old (ends.Shown text))
+show_ending k old new (ends.WrongOutput port at) = Untouched ⊥
+show_ending k old new o = check_ending k old new o
 
 -- ---- by status
 
@@ -181,7 +181,7 @@ abbrev pub replay_meaning : RunNames → Meaning
 replay_meaning k = record {
   reads = reads_of widths.Two k;
   writes = [];
-  end = replay_end k;
+  end = replay_ending k;
   Done = λ old new before after. IsTrue old.told → ReplayEnded k old new before after;
   Front = SameFiles;
   Forms = λ d. IsTrue d.told × (entries : ℕ) × CheckSays k d (ends.Legal entries);
@@ -192,7 +192,7 @@ abbrev pub show_meaning : RunNames → Meaning
 show_meaning k = record {
   reads = reads_of widths.One k;
   writes = [];
-  end = show_end k;
+  end = show_ending k;
   Done = λ old new before after. IsTrue old.told → ShowEnded k old new before after;
   Front = SameFiles;
   Forms = λ d. IsTrue d.told × (text : List ℕ) × CheckSays k d (ends.Shown text);
@@ -288,7 +288,7 @@ pub record IsStanding (F : Contents) (entries : ℕ) (c : Settings) (budget : Bu
 -- how a check ends
 abbrev pub IsChecked : Width → RunNames → Seen → Seen → Result (Contents × ℕ) Outcome → Type 0
 IsChecked width k old new (Ok (F, entries)) = SameFiles old new × (IsTrue old.told → Finds k old (IsStanding F entries)) × NoFaults old new
-IsChecked width k old new (Err outcome) = EndsBy (reads_of width k) [] old new (check_end k old new outcome)
+IsChecked width k old new (Err outcome) = EndsBy (reads_of width k) [] old new (check_ending k old new outcome)
 
 -- what is told of a fabric that stands for a journal, or want of memory
 abbrev pub Tells : Contents → ℕ → Outcome → Type 0
