@@ -1,6 +1,7 @@
 -- A journal that is read whole, and outputs that are opened to be read.
 use Rattle.std.proofs.Common.{◌≡◌, ℕ, ◌+◌, ◌-◌, ◌<◌, ◌≤◌, List, [], ◌∷◌, ◌++◌, length, true, Some, Ok, Err, IsTrue, refl, sym, ap, ◌∙◌, subst, arith, inl, inr}
 use Rattle.std.specs.Prelude.{Result, Vec, String, map}
+use Rattle.std.specs.Result.{IsErrAnd}
 use Rattle.std.specs.declared.alloc.Global.{Global}
 use Rattle.fab_base.specs.Ending.{NoFaults, SparesReads}
 use Rattle.fab_base.specs.Seen.{Seen, Reads, Rose, OpensIn, Touches, Nothing, Only, SameReadFaults, SameWriteFaults}
@@ -23,6 +24,7 @@ use Rattle.fabric_tool.specs.declared.command.Width.TheVariants as widths
 use Rattle.fabric_tool.specs.declared.outcome.Outcome.{Outcome}
 use Rattle.fabric_tool.specs.declared.outcome.Outcome.TheVariants as ends
 use Rattle.fab_base.proofs.EndingLemmas.{none_yet, none_then, spares_reads_then}
+use Rattle.fab_replay.proofs.ResultLemmas.{err_is}
 use Rattle.run_files.proofs.NameLemmas.{among_front, among_back, among_split, rose_among, rose_since, split_names, push_name, length-counted}
 use Rattle.fabric_tool.proofs.NameLemmas.{new_output}
 
@@ -152,6 +154,10 @@ pub outs_read : (words : List (String Global)) (p : ℕ) (a b : Seen) {T : Type 
 outs_read words p a b {T} items o all h =
     let r = subst (λ (n : ℕ). ReadSoFar (map (output_at words) (counting 0 n)) a b (items o)) all h in
     record { touches = r.touches; slots = r.are; cause = tt; counts = r.counts.0; writes = r.counts.1 }
+
+-- an output that can't be opened, in a result that hands it on
+pub outs_handed : {T : Type 0} (r : Result T Failed) (items : T → List ℕ) {k : RunNames} {a b : Seen} (e : Failed) → IsErrAnd r (λ x. x ≡ e) → OutputsRead {T = T} items k a b (Err e) → OutputsRead {T = T} items k a b r
+outs_handed {T} r items {k} {a} {b} e h read = subst (OutputsRead {T = T} items k a b) (err_is r e h) read
 
 -- no outputs
 pub no_outs : (words : List (String Global)) (a : Seen) {T : Type 0} (items : T → List ℕ) (o : T) → items o ≡ [] → OutputsRead {T = T} items (show_of words) a a (Ok o)

@@ -79,10 +79,7 @@ fn fabric_of<D: Depot>(alloc: Global, words: &[String], depot: &mut D) -> Result
     ensures prepares { IsLivePrepared (spec.live_of words.now) (D.seen depot.old)
         (D.seen depot.new) result }
 {
-    let config = match config_of(alloc, depot, word_at(words, 1)) {
-        Ok(config) => config,
-        Err(outcome) => return Err(outcome),
-    };
+    let config = config_of(alloc, depot, word_at(words, 1))?;
     // For the proof: the values of the configuration are in their ranges.
     in_range(&config);
     match Fabric::new(alloc, config, live_count(words) as u32) {
@@ -99,21 +96,14 @@ fn open_recorded<D: Depot>(depot: &mut D, words: &[String]) -> Result<Recorded, 
     ensures opens { RecordedOpened (spec.live_of words.now) (D.seen depot.old) (D.seen depot.new)
         result }
 {
-    let journal = match depot.open_out(word_at(words, 2)) {
-        Ok(slot) => slot,
-        Err(failed) => return Err(failed),
-    };
+    let journal = depot.open_out(word_at(words, 2))?;
     let mut ins = ArrayVec::new();
     let mut outs = ArrayVec::new();
     for port in 0..live_count(words) {
-        match depot.open_out(came_at(words, port)) {
-            Ok(slot) => add_slot(&mut ins, slot),
-            Err(failed) => return Err(failed),
-        }
-        match depot.open_out(sent_at(words, port)) {
-            Ok(slot) => add_slot(&mut outs, slot),
-            Err(failed) => return Err(failed),
-        }
+        let came = depot.open_out(came_at(words, port))?;
+        add_slot(&mut ins, came);
+        let sent = depot.open_out(sent_at(words, port))?;
+        add_slot(&mut outs, sent);
     }
     Ok(Recorded { journal, ins, outs })
 }
