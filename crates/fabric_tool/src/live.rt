@@ -1,8 +1,8 @@
 //! The command `live`.
-ghost use Rattle.std.specs.Prelude.{◌≡◌, true};
+ghost use Rattle.std.specs.Prelude.{◌≡◌, IfOk, true};
 ghost use Rattle.fabric_tool.specs.Command as spec;
 ghost use Rattle.fabric_tool.specs.Ends.{Holds, TouchesOwn};
-ghost use Rattle.fabric_tool.specs.Opening.{RecordedOpened, lived_by};
+ghost use Rattle.fabric_tool.specs.Opening.{HasWidth, RecordedOpened, lived_by};
 ghost use Rattle.fabric_tool.specs.Preparing.{IsLivePrepared};
 
 use crate::command::{came_at, live_count, sent_at};
@@ -95,6 +95,7 @@ fn open_recorded<D: Depot>(depot: &mut D, words: &[String]) -> Result<Recorded, 
     requires known { spec.AllKnown (D.seen depot.old) words.now }
     ensures opens { RecordedOpened (spec.live_of words.now) (D.seen depot.old) (D.seen depot.new)
         result }
+    ensures width { IfOk result (λ o. HasWidth (spec.live_of words.now) o) }
 {
     let journal = depot.open_out(word_at(words, 2))?;
     let mut ins = ArrayVec::new();

@@ -1,7 +1,7 @@
 use Rattle.std.proofs.Common.{◌+◌, ◌<◌, ◌∷◌, ◌≡◌, [], ◌++◌, ℕ, List, sym, subst, arith}
 use Rattle.fabric_tool.specs.Command.{live_of, live_count}
 use Rattle.fabric_tool.specs.Opening.{RecordedOpened}
-use Rattle.fab_replay.proofs.ResultLemmas.{err_is}
+use Rattle.fab_replay.proofs.ResultLemmas.{err_is, not_ok}
 use Rattle.fabric_tool.proofs.PortLoops.{out_as}
 use Rattle.fabric_tool.proofs.LiveWordLemmas.{PortsOpened, live_journal, live_no_journal, came_failed, sent_failed, both_opened, live_opened}
 use Rattle.fabric_tool.proofs.live.open_recorded.Goals as goal
@@ -14,6 +14,7 @@ returns-in_err-journal g c =
     record {
       opens = subst (RecordedOpened (live_of c.args.words.now) a d) (err_is c.from_residual.result _ c.from_residual.ensures.1)
           (live_no_journal c.args.words.now a d c.in_err-journal.field-0.0 (out_as c.word_at.ensures c.in_err-journal.ensures.opens));
+      width = not_ok c.from_residual.result _ _ c.from_residual.ensures.1;
     }
 
 pub loop-port-init : goal.loop-port-init
@@ -33,6 +34,7 @@ returns-in_err-came g c =
       opens = subst (RecordedOpened (live_of c.args.words.now) a d) (err_is c.from_residual-in_err-came.result _ c.from_residual-in_err-came.ensures.1)
           (came_failed c.args.words.now c.requires.live c.loop-port.port lt a (seen c.loop-port.depot) c.in_ok-journal.journal c.loop-port.ins.items c.loop-port.outs.items c.loop-port.invariant
           d c.in_err-came.field-0.0 (out_as c.came_at.ensures c.in_err-came.ensures.opens));
+      width = not_ok c.from_residual-in_err-came.result _ _ c.from_residual-in_err-came.ensures.1;
     }
 
 pub returns-in_err-sent : goal.returns-in_err-sent
@@ -46,6 +48,7 @@ returns-in_err-sent g c =
           (sent_failed c.args.words.now c.requires.live c.loop-port.port lt a (seen c.loop-port.depot) c.in_ok-journal.journal c.loop-port.ins.items c.loop-port.outs.items c.loop-port.invariant
           (seen c.open_out-in-loop-port.new.self) c.in_ok-came.came (out_as c.came_at.ensures c.in_ok-came.ensures.opens)
           d c.in_err-sent.field-0.0 (out_as c.sent_at.ensures c.in_err-sent.ensures.opens));
+      width = not_ok c.from_residual-in_err-sent.result _ _ c.from_residual-in_err-sent.ensures.1;
     }
 
 pub loop-port-preserved : goal.loop-port-preserved
@@ -70,4 +73,4 @@ returns g c =
     omega arith in
     let h = subst (λ (p : ℕ). PortsOpened c.args.words.now p (seen c.args.depot.now) (seen c.loop-port.depot) c.in_ok-journal.journal c.loop-port.ins.items c.loop-port.outs.items) all c.loop-port.invariant in
     let width = live_opened c.args.words.now (seen c.args.depot.now) (seen c.loop-port.depot) c.in_ok-journal.journal c.loop-port.ins.items c.loop-port.outs.items h in
-    record { opens = record { opens = h.opened.opens; width = width; slots = h.opened.are; cause = tt; counts = h.opened.counts } }
+    record { opens = record { opens = h.opened.opens; slots = h.opened.are; cause = tt; counts = h.opened.counts }; width = width }

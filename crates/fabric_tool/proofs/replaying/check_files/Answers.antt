@@ -14,7 +14,7 @@ returns-in_err-config g c =
     record {
       checks = subst (IsChecked c.args.width (names_of c.args.width c.args.words.now) a d) (err_is c.from_residual.result _ c.from_residual.ensures.1)
           (given_ended c.args.width c.args.words.now c.requires.ports a d c.in_err-config.field-0.0 c.in_err-config.ensures.reads);
-      touches = given_own c.args.width c.args.words.now _ _ c.in_err-config.ensures.reads.touches;
+      touches = given_own c.args.width c.args.words.now _ _ c.in_err-config.ensures.reads.uses;
     }
 
 pub returns : goal.returns
@@ -23,5 +23,5 @@ returns g c =
     record {
       checks = c.check.ensures.checks (seen c.args.depot.now)
           (subst (λ (l : List ℕ). HasGiven (names_of c.args.width c.args.words.now) c.in_ok-config.config l (seen c.args.depot.now) (seen c.config_and_journal.new.depot)) (sym c.deref.ensures.value) c.in_ok-config.ensures.reads.given);
-      touches = own_then (command_of c.args.width (names_of c.args.width c.args.words.now)) _ _ _ (given_own c.args.width c.args.words.now _ _ c.in_ok-config.ensures.reads.touches) c.check.ensures.touches;
+      touches = own_then (command_of c.args.width (names_of c.args.width c.args.words.now)) _ _ _ (given_own c.args.width c.args.words.now _ _ c.in_ok-config.ensures.reads.uses) c.check.ensures.touches;
     }
