@@ -1,5 +1,5 @@
 -- What follows from how `live` ended.
-use Rattle.std.proofs.Common.{◌≡◌, ℕ, List, [], ◌∷◌, length, ◌⊎◌, arith, inl, inr}
+use Rattle.std.proofs.Common.{ℕ, List, ◌∷◌, length, ◌⊎◌, arith, inl, inr}
 use Rattle.fab_base.specs.Seen.{Seen, SameFiles}
 use Rattle.fab_config.specs.Settings.{Settings}
 use Rattle.pcapng_file.specs.declared.NgRecord.{NgRecord}

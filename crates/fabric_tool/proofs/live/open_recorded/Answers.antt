@@ -1,4 +1,4 @@
-use Rattle.std.proofs.Common.{◌+◌, ◌<◌, ◌∷◌, ◌≡◌, [], ◌++◌, ℕ, List, sym, subst, arith}
+use Rattle.std.proofs.Common.{◌+◌, ◌<◌, ◌∷◌, ◌≡◌, [], ◌++◌, ℕ, sym, subst, arith}
 use Rattle.fabric_tool.specs.Command.{live_of, live_count}
 use Rattle.fabric_tool.specs.Opening.{RecordedOpened}
 use Rattle.fab_replay.proofs.ResultLemmas.{err_is, not_ok}
