@@ -1,16 +1,16 @@
 -- How the check of `replay` and of `show` ends.
-use Rattle.std.proofs.Common.{◌≡◌, ◌≢◌, ℕ, zero, suc, ◌+◌, ◌-◌, ◌*◌, ◌<◌, ◌≤◌, List, [], ◌∷◌, ◌++◌, length, get_or, true, Some, Ok, Err, IsTrue, refl, sym, ap, ◌∙◌, subst, arith, inl, inr}
+use Rattle.std.proofs.Common.{◌≡◌, ℕ, zero, suc, ◌+◌, ◌-◌, ◌*◌, ◌<◌, ◌≤◌, List, [], ◌∷◌, ◌++◌, length, get_or, true, Some, Ok, Err, IsTrue, refl, sym, ap, ◌∙◌, subst, arith, inl, inr}
 use Rattle.std.specs.Prelude.{Result, String}
 use Rattle.std.specs.declared.alloc.Global.{Global}
-use Rattle.fab_base.specs.Ending.{NoFaults, Read, SparesReads, end_by}
-use Rattle.fab_base.specs.Seen.{Seen, SameFiles, SameReadFaults, SameWriteFaults, Touches, Nothing, bytes_of}
+use Rattle.fab_base.specs.Ending.{End, Said, Read, end_by, SparesReads, Counts, Either, RoseIn, Uses}
+use Rattle.fab_base.specs.Seen.{Seen, SameFiles, SameWriteFaults, Touches, Nothing, bytes_of}
 use Rattle.fab_config.specs.Settings.{Settings}
 use Rattle.pcap_file.specs.Capture.{HEAD}
 use Rattle.pcap_file.specs.declared.Budget.{Budget}
 use Rattle.fab_policy.specs.Journal.{Journal}
 use Rattle.fab_policy.specs.Standing.{Contents}
 use Rattle.fab_gather.specs.First.{opened_in}
-use Rattle.fab_base.specs.Slots.{slot_at, name_of}
+use Rattle.fab_base.specs.Slots.{slot_at, name_of, NameIn}
 use Rattle.fab_gather.specs.Ports.{slots_of}
 use Rattle.fab_gather.specs.declared.shelf.Input.{Input}
 use Rattle.pcap_file.specs.declared.fault.GatherFault.{GatherFault}
@@ -22,7 +22,7 @@ use Rattle.fab_replay.specs.declared.fault.CheckFault.TheVariants as checks
 use Rattle.fabric_tool.specs.Checking.{budget_of, output_in, matter_of, HasMatter, HasGiven, Finds, IsStanding, IsUnread, IsChecked, AreOpenInputs, reads_of, refused_by}
 use Rattle.fabric_tool.specs.Command.{are_ports, names_of, ins_of, count_of, input_of}
 use Rattle.run_files.specs.Names.{Among, AnyRose}
-use Rattle.fabric_tool.specs.Ending.{ReadRose}
+use Rattle.fabric_tool.specs.Ending.{CountsOf}
 use Rattle.fabric_tool.specs.Inputs.{AreOpened, MOST_BYTES, MOST_FRAMES}
 use Rattle.fabric_tool.specs.Outcome.{outcome_end}
 use Rattle.fabric_tool.specs.Reading.{AreHeads, HeadsRead, HeadsEnd}
@@ -30,12 +30,14 @@ use Rattle.fabric_tool.specs.declared.command.Width.{Width}
 use Rattle.fabric_tool.specs.declared.command.Width.TheVariants as widths
 use Rattle.fabric_tool.specs.declared.outcome.Outcome.{Outcome}
 use Rattle.fabric_tool.specs.declared.outcome.Outcome.TheVariants as ends
-use Rattle.fab_base.proofs.EndingLemmas.{none_then, reads_spared}
-use Rattle.run_files.proofs.NameLemmas.{rose_among, rose_since, length-counted}
+use Rattle.fab_base.proofs.EndingLemmas.{uses_then, uses_wider}
+use Rattle.fab_base.proofs.SeenLemmas.{touches_wider}
+use Rattle.run_files.proofs.NameLemmas.{among_front, among_back, among_split, rose_since, length-counted}
 use Rattle.fabric_tool.proofs.HeadLemmas.{heads_opened, heads_since}
 use Rattle.fabric_tool.proofs.JournalLemmas.{outs_count}
 use Rattle.fabric_tool.proofs.SinceLemmas.{without_since, no_room_since, unread_since}
 use Rattle.fabric_tool.proofs.SlotLemmas.{heads_on, all_named, slots_among}
+use Rattle.fabric_tool.proofs.UseLemmas.{used_touches, used_files, used_told, used_counts, any_rose}
 pub use Rattle.fabric_tool.proofs.SlotLemmas.{ins_named}
 
 -- ---- the same matter, told by slots and by names
@@ -67,34 +69,21 @@ module _ (c : Settings) (budget : Budget) (m : Matter) (found : ℕ → List ℕ
   pub stop_on : (e : GatherFault) → IsFirstStop c budget m e → IsFirstStop c budget (record { ins = m.ins; journal = m.journal; outputs = m.outputs; found = found }) e
   stop_on e x = record { at = x.at; is = x.is; says = x.says; entry_list = x.entry_list; before = x.before; all = x.all }
 
--- ---- counts of a command's names
+-- ---- names of a command
 
-rose_front : (before now : List ℕ → ℕ) (xs ys : List (List ℕ)) → AnyRose before now xs → AnyRose before now (xs ++ ys)
-rose_front before now [] ys rose = absurd rose
-rose_front before now (x ∷ xs) ys (inl rose) = inl rose
-rose_front before now (x ∷ xs) ys (inr rose) = inr (rose_front before now xs ys rose)
+-- a capture or an output is an input of the command
+pub checked : (w : Width) (words : List (String Global)) (m : List ℕ) → Among (ins_of w words ++ (names_of w words).outs) m → Among (reads_of w (names_of w words)) m
+checked widths.One words m x = inr (inr (elim (among_split (ins_of widths.One words) [] m x) [ inl i ↦ i | inr none ↦ absurd none ]))
+checked widths.Two words m x = inr (inr x)
 
-rose_back : (before now : List ℕ → ℕ) (xs ys : List (List ℕ)) → AnyRose before now ys → AnyRose before now (xs ++ ys)
-rose_back before now [] ys rose = rose
-rose_back before now (x ∷ xs) ys rose = inr (rose_back before now xs ys rose)
-
-rose_nothing : (before now : List ℕ → ℕ) (xs : List (List ℕ)) → AnyRose before now (xs ++ []) → AnyRose before now xs
-rose_nothing before now [] rose = rose
-rose_nothing before now (x ∷ xs) (inl rose) = inl rose
-rose_nothing before now (x ∷ xs) (inr rose) = inr (rose_nothing before now xs rose)
-
--- a count of a capture or of an output is one of an input of the command
-rose_of : (w : Width) (words : List (String Global)) (a z : Seen) → AnyRose a.read_faults z.read_faults (ins_of w words ++ (names_of w words).outs) → ReadRose (reads_of w (names_of w words)) a z
-rose_of widths.One words a z rose = inr (inr (rose_nothing a.read_faults z.read_faults (ins_of widths.One words) rose))
-rose_of widths.Two words a z rose = inr (inr rose)
-
-pub rose_given : (w : Width) (words : List (String Global)) (a z : Seen) → AnyRose a.read_faults z.read_faults ((names_of w words).config ∷ (names_of w words).journal ∷ []) → ReadRose (reads_of w (names_of w words)) a z
-rose_given widths.One words a z (inl rose) = inl rose
-rose_given widths.One words a z (inr (inl rose)) = inr (inl rose)
-rose_given widths.One words a z (inr (inr rose)) = absurd rose
-rose_given widths.Two words a z (inl rose) = inl rose
-rose_given widths.Two words a z (inr (inl rose)) = inr (inl rose)
-rose_given widths.Two words a z (inr (inr rose)) = absurd rose
+-- and so are the configuration and the journal
+pub first_two : (w : Width) (words : List (String Global)) (m : List ℕ) → Among ((names_of w words).config ∷ (names_of w words).journal ∷ []) m → Among (reads_of w (names_of w words)) m
+first_two widths.One words m (inl e) = inl e
+first_two widths.One words m (inr (inl e)) = inr (inl e)
+first_two widths.One words m (inr (inr none)) = absurd none
+first_two widths.Two words m (inl e) = inl e
+first_two widths.Two words m (inr (inl e)) = inr (inl e)
+first_two widths.Two words m (inr (inr none)) = absurd none
 
 -- ---- how the check ends
 
@@ -111,30 +100,52 @@ checks_as {s} {c} {left} {xs} {ins} {ys} {slots} {journal} {o} {z} {F} {r} setti
     subst (λ x. Checks (task_of x left ins o journal slots) z F r) settings
     (subst (λ l. Checks (task_of s left l o journal slots) z F r) inputs (subst (λ l. Checks (task_of s left xs o journal l) z F r) outputs checks))
 
+-- what it did to the store, by its slots
+checks_uses : (names : List ℕ → Type 0) (o z : Seen) (r : Result ℕ CheckFault) → Touches Nothing names o z → (r ≡ Err checks.Read → RoseIn names o.read_faults z.read_faults) → SparesReads (end_by counts.check_end r) o z × SameWriteFaults o z → Uses names Nothing (end_by counts.check_end r) o z
+checks_uses names o z r touches rose tells = record { touches = touches_wider Nothing names Nothing (Either names Nothing) o z (λ m x. x) (λ m x. inl x) touches; counts = go r rose tells }
+  where
+    go : (r : Result ℕ CheckFault) → (r ≡ Err checks.Read → RoseIn names o.read_faults z.read_faults) → SparesReads (end_by counts.check_end r) o z × SameWriteFaults o z → Counts (RoseIn names o.read_faults z.read_faults) (RoseIn Nothing o.write_faults z.write_faults) (end_by counts.check_end r) o z
+    go (Ok entries) rose tells = tells
+    go (Err checks.Read) rose tells = (rose refl, tells.1)
+    go (Err e) rose tells = tells
+
 -- the configuration and the journal were read
 module _ (w : Width) (words : List (String Global)) (run : are_ports w words ≡ true) (c : Settings) (journal : List ℕ) (a b : Seen) (given : HasGiven (names_of w words) c journal a b) where
+  abbrev own : List (List ℕ)
+  own = reads_of w (names_of w words)
+
   told_b : IsTrue a.told → IsTrue b.told
-  told_b told = subst IsTrue (sym given.touches.told) told
+  told_b = used_told given.uses
 
   files_b : SameFiles a b
-  files_b m = given.touches.files m (λ x. x)
+  files_b = used_files given.uses
+
+  all_b : Uses (Among own) Nothing Said a b
+  all_b = uses_wider (Among ((names_of w words).config ∷ (names_of w words).journal ∷ [])) Nothing (Among own) Nothing (first_two w words) (λ m x. x) Said a b given.uses
+
+  -- further calls, on captures and outputs
+  then_on : (names : List ℕ → Type 0) → ((m : List ℕ) → names m → Among (ins_of w words ++ (names_of w words).outs) m) → (end : End) (m z : Seen) → Uses (Among own) Nothing Said a m → Uses names Nothing end m z → Uses (Among own) Nothing end a z
+  then_on names are end m z before now = uses_then (Among own) Nothing end a m z before (uses_wider names Nothing (Among own) Nothing (λ n x. checked w words n (are n x)) (λ n x. x) end m z now)
+
+  in_front : (m : List ℕ) → Among (ins_of w words) m → Among (ins_of w words ++ (names_of w words).outs) m
+  in_front = among_front (ins_of w words) (names_of w words).outs
+
+  in_back : (m : List ℕ) → Among (names_of w words).outs m → Among (ins_of w words ++ (names_of w words).outs) m
+  in_back = among_back (ins_of w words) (names_of w words).outs
+
+  counted : {end : End} {z : Seen} → Uses (Among own) Nothing end a z → CountsOf own [] end a z
+  counted used = used_counts used own [] (λ m x. x)
 
   names_count : length (names_of w words).ins ≡ count_of w words
   names_count = ap (λ (l : List (List ℕ)). length l) (ins_named w words) ∙ length-counted (input_of w words) 0 (count_of w words)
 
   -- a head can't be read
   pub heads_ended : length journal ≤ MOST_BYTES → (z : Seen) (frames : ℕ) (left : Budget) (x : Outcome) → HeadsRead (ins_of w words) b z (record { bytes = MOST_BYTES - length journal; frames = frames }) left (Err x) → IsChecked w (names_of w words) a z (Err x)
-  heads_ended room z frames left x read = go x read.ended read.counts
+  heads_ended room z frames left x read = go x (then_on (Among (ins_of w words)) in_front (outcome_end x) b z all_b read.uses) read.ended
     where
-      same : SameFiles a z
-      same m = read.touches.files m (λ y. y) ∙ files_b m
-
-      none : SameReadFaults b z → NoFaults a z
-      none spares = none_then a b z given.counts (spares, read.writes)
-
-      go : (x : Outcome) → HeadsEnd (ins_of w words) (MOST_BYTES - length journal) b z x → SparesReads (outcome_end x) b z → IsChecked w (names_of w words) a z (Err x)
-      go (ends.Capture port at reason) e spares = (
-        same,
+      go : (x : Outcome) → Uses (Among own) Nothing (outcome_end x) a z → HeadsEnd (ins_of w words) (MOST_BYTES - length journal) b z x → IsChecked w (names_of w words) a z (Err x)
+      go (ends.Capture port at reason) used e = (
+        used_files used,
         λ told.
             inl (
               e.0,
@@ -145,19 +156,19 @@ module _ (w : Width) (words : List (String Global)) (run : are_ports w words ≡
                 within = (let up_to = e.1 in omega arith);
               },
             ),
-        none spares,
+        counted used,
       )
-      go (ends.Limit kind) e spares = (
-        same,
+      go (ends.Limit kind) used e = (
+        used_files used,
         λ told.
             inl (
               e.0,
               record { settings = c; config = given.config told; journal = journal; lines = given.lines told; heads = no_room_since a b files_b (ins_named w words) (e.2 (told_b told)) },
             ),
-        none spares,
+        counted used,
       )
-      go ends.ReadFault e spares = (
-        same,
+      go ends.ReadFault used e = (
+        used_files used,
         λ told.
             inr (inr (inl (record {
               settings = c;
@@ -165,26 +176,17 @@ module _ (w : Width) (words : List (String Global)) (run : are_ports w words ≡
               journal = journal;
               lines = given.lines told;
               room = room;
-              first = unread_since a b files_b (ins_named w words) z given.touches.reads_rise (e.1 (told_b told));
+              first = unread_since a b files_b (ins_named w words) z given.uses.touches.reads_rise (e (told_b told));
             }))),
-        (
-          rose_of w words a z (rose_front a.read_faults z.read_faults (ins_of w words) (names_of w words).outs (rose_since a.read_faults b.read_faults z.read_faults given.touches.reads_rise (ins_of w words) e.0)),
-          λ m. read.writes m ∙ given.counts.1 m,
-        ),
+        counted used,
       )
-      go ends.Memory e spares = (same, λ told. tt, none spares)
-      go x e spares = absurd e
+      go ends.Memory used e = (used_files used, λ told. tt, counted used)
+      go x used e = absurd e
 
-  module _ (m : Seen) (ins : List Input) (had left : Budget) (heads : AreHeads b m (ins_of w words) ins) (touched : Touches Nothing (Among (ins_of w words)) b m)
+  module _ (m : Seen) (ins : List Input) (had left : Budget) (heads : AreHeads b m (ins_of w words) ins) (read : Uses (Among (ins_of w words)) Nothing Said b m)
       (taken : (left.bytes + HEAD * length (ins_of w words) ≡ had.bytes) × (left.frames ≡ had.frames)) (had_bytes : had.bytes ≡ MOST_BYTES - length journal) (had_frames : had.frames ≡ MOST_FRAMES) (room : length journal ≤ MOST_BYTES) where
-    files_m : SameFiles a m
-    files_m n = touched.files n (λ x. x) ∙ files_b n
-
-    told_m : IsTrue a.told → IsTrue m.told
-    told_m told = subst IsTrue (sym touched.told) (told_b told)
-
-    rise_m : (n : List ℕ) → a.read_faults n ≤ m.read_faults n
-    rise_m n = let one = given.touches.reads_rise n in let two = touched.reads_rise n in omega arith
+    all_m : Uses (Among own) Nothing Said a m
+    all_m = then_on (Among (ins_of w words)) in_front Said b m all_b read
 
     within : length journal + HEAD * length (names_of w words).ins ≤ MOST_BYTES
     within = let n = names_count in let l = length-counted (input_of w words) 0 (count_of w words) in let t = taken.0 in omega arith
@@ -197,34 +199,34 @@ module _ (w : Width) (words : List (String Global)) (run : are_ports w words ≡
     }
 
     -- behind all heads a capture or an output couldn't be read
-    unread_behind : (d z : Seen) → AreHeads a d (ins_of w words) ins → AnyRose a.read_faults z.read_faults (ins_of w words ++ (names_of w words).outs) → IsTrue a.told → IsUnread (names_of w words) a z
-    unread_behind d z are rose told = inr (inr (inr (
-      subst (λ l. AnyRose a.read_faults z.read_faults (l ++ (names_of w words).outs)) (sym (ins_named w words)) rose,
-      record { settings = c; opened = opened_in d ins; journal = journal; matter = matter_at d are told; says = tt },
-    )))
+    unread_behind : (o z : Seen) → AreHeads a o (ins_of w words) ins → Uses (Among own) Nothing Said a o → RoseIn (Among (ins_of w words ++ (names_of w words).outs)) o.read_faults z.read_faults → IsTrue a.told → IsUnread (names_of w words) a z
+    unread_behind o z are before rose told =
+        let names = ins_of w words ++ (names_of w words).outs in
+        inr (inr (inr (
+          subst (λ l. AnyRose a.read_faults z.read_faults (l ++ (names_of w words).outs)) (sym (ins_named w words)) (rose_since a.read_faults o.read_faults z.read_faults before.touches.reads_rise names (any_rose o.read_faults z.read_faults names rose)),
+          record { settings = c; opened = opened_in o ins; journal = journal; matter = matter_at o are told; says = tt },
+        )))
 
     -- an output can't be opened
-    pub outs_ended : (z : Seen) → Touches Nothing (Among (names_of w words).outs) m z → AnyRose m.read_faults z.read_faults (names_of w words).outs → SameWriteFaults a z → IsChecked w (names_of w words) a z (Err ends.ReadFault)
-    outs_ended z more rose writes =
-        let any = rose_back a.read_faults z.read_faults (ins_of w words) (names_of w words).outs (rose_since a.read_faults m.read_faults z.read_faults rise_m (names_of w words).outs rose) in
-        (λ n. more.files n (λ x. x) ∙ files_m n, unread_behind m z (heads_since a b m files_b told_b (ins_of w words) ins heads) any, (rose_of w words a z any, writes))
+    pub outs_ended : (z : Seen) → Uses (Among (names_of w words).outs) Nothing Read m z → IsChecked w (names_of w words) a z (Err ends.ReadFault)
+    outs_ended z more =
+        let used = then_on (Among (names_of w words).outs) in_back Read m z all_m more in
+        let rose = more.counts.0 in
+        (used_files used, unread_behind m z (heads_since a b m files_b told_b (ins_of w words) ins heads) all_m (rose.0, in_back rose.0 rose.1, rose.2), counted used)
 
-    module _ (o : Seen) (slots : List ℕ) (opened : Touches Nothing (Among (names_of w words).outs) m o) (outs : AreOpenInputs m o (names_of w words).outs slots) where
-      files_o : SameFiles a o
-      files_o n = opened.files n (λ x. x) ∙ files_m n
-
-      told_o : IsTrue a.told → IsTrue o.told
-      told_o told = subst IsTrue (sym opened.told) (told_m told)
+    module _ (o : Seen) (slots : List ℕ) (opened : Uses (Among (names_of w words).outs) Nothing Said m o) (outs : AreOpenInputs m o (names_of w words).outs slots) where
+      all_o : Uses (Among own) Nothing Said a o
+      all_o = then_on (Among (names_of w words).outs) in_back Said m o all_m opened
 
       -- memory is refused for the fabric
-      pub no_fabric : NoFaults a o → IsChecked w (names_of w words) a o (Err ends.Memory)
-      no_fabric none = (files_o, λ told. tt, none)
+      pub no_fabric : IsChecked w (names_of w words) a o (Err ends.Memory)
+      no_fabric = (used_files all_o, λ told. tt, counted all_o)
 
       heads_a : AreHeads a o (ins_of w words) ins
-      heads_a = heads_since a b o files_b told_b (ins_of w words) ins (heads_on w words run b m o ins heads slots opened outs)
+      heads_a = heads_since a b o files_b told_b (ins_of w words) ins (heads_on w words run b m o ins heads slots (used_touches opened) outs)
 
       outs_a : AreOpenInputs a o (names_of w words).outs slots
-      outs_a = outs_since a m o files_m told_m (names_of w words).outs slots outs
+      outs_a = outs_since a m o (used_files all_m) (used_told all_m) (names_of w words).outs slots outs
 
       same_budget : left ≡ budget_of journal (length (names_of w words).ins)
       same_budget =
@@ -251,34 +253,39 @@ module _ (w : Width) (words : List (String Global)) (run : are_ports w words ≡
       same_found : IsTrue a.told → (q : ℕ) → q < length slots → output_in (names_of w words) a q ≡ o.left (slot_at slots q)
       same_found told q lt = found_there a o (names_of w words).outs slots q lt told outs_a
 
-      module _ (z : Seen) (F : Contents) (settings : F.settings ≡ c) (r : Result ℕ CheckFault) (all : Checks (task_of c left ins o journal slots) z F r) (none : NoFaults a o) (tells : SparesReads (end_by counts.check_end r) o z × SameWriteFaults o z) where
-        same : SameFiles a z
-        same n = all.touches.files n (λ x. x) ∙ files_o n
-
+      module _ (z : Seen) (F : Contents) (settings : F.settings ≡ c) (r : Result ℕ CheckFault) (all : Checks (task_of c left ins o journal slots) z F r) (tells : SparesReads (end_by counts.check_end r) o z × SameWriteFaults o z) where
         says : IsTrue a.told → Says c left (matter_in o ins journal slots) F r
-        says told = all.says (told_o told)
+        says told = all.says (used_told all_o told)
 
-        rise_o : (n : List ℕ) → a.read_faults n ≤ o.read_faults n
-        rise_o n = let one = rise_m n in let two = opened.reads_rise n in omega arith
+        of_slots : (n : List ℕ) → NameIn o (slots_of ins ++ slots) n → Among (ins_of w words ++ (names_of w words).outs) n
+        of_slots n at = slots_among w words run o (slots_of ins ++ slots) (all_named w words run b m o ins heads slots (used_touches opened) outs) n at
 
-        -- no fault was counted but one that is told
-        spared : (t : Result ℕ CheckFault) → r ≡ t → end_by counts.check_end t ≢ Read → NoFaults a z
-        spared t is other = none_then a o z none (reads_spared (end_by counts.check_end t) o z (subst (λ y. SparesReads (end_by counts.check_end y) o z) is tells.0) other, tells.1)
+        rose_in : r ≡ Err checks.Read → RoseIn (NameIn o (slots_of ins ++ slots)) o.read_faults z.read_faults
+        rose_in is = let at = all.read is in (name_of o (slots_of ins ++ slots) at.0, (at.0, at.1, refl), at.2)
+
+        used : (t : Result ℕ CheckFault) → r ≡ t → Uses (Among own) Nothing (end_by counts.check_end t) a z
+        used t is =
+            subst (λ (y : Result ℕ CheckFault). Uses (Among own) Nothing (end_by counts.check_end y) a z) is
+            (then_on (NameIn o (slots_of ins ++ slots)) of_slots (end_by counts.check_end r) o z all_o (checks_uses (NameIn o (slots_of ins ++ slots)) o z r all.touches rose_in tells))
 
         pub check_done : (entries : ℕ) → r ≡ Ok entries → IsChecked w (names_of w words) a z (Ok (F, entries))
-        check_done entries is = (same, λ told. finds (IsStanding F entries) told (standing_on c left (matter_in o ins journal slots) (output_in (names_of w words) a) (same_found told) F entries settings (subst (Says c left (matter_in o ins journal slots) F) is (says told))), spared (Ok entries) is (λ e. cc))
-
-        any_rose : r ≡ Err checks.Read → AnyRose a.read_faults z.read_faults (ins_of w words ++ (names_of w words).outs)
-        any_rose is =
-            let at = all.read is in
-            let names = ins_of w words ++ (names_of w words).outs in
-            let among = slots_among w words run o (slots_of ins ++ slots) (all_named w words run b m o ins heads slots opened outs) (name_of o (slots_of ins ++ slots) at.0) (at.0, at.1, refl) in
-            rose_since a.read_faults o.read_faults z.read_faults rise_o names (rose_among o.read_faults z.read_faults names (name_of o (slots_of ins ++ slots) at.0) among at.2)
+        check_done entries is = (used (Ok entries) is, λ told. finds (IsStanding F entries) told (standing_on c left (matter_in o ins journal slots) (output_in (names_of w words) a) (same_found told) F entries settings (subst (Says c left (matter_in o ins journal slots) F) is (says told))))
 
         pub check_refused : (e : CheckFault) → r ≡ Err e → IsChecked w (names_of w words) a z (Err (refused_by e))
-        check_refused (checks.Line line why) is = (same, λ told. finds _ told (subst (Says c left (matter_in o ins journal slots) F) is (says told)), spared (Err (checks.Line line why)) is (λ e. cc))
-        check_refused (checks.Output port at) is = (same, λ told. finds _ told (output_on c left (matter_in o ins journal slots) (output_in (names_of w words) a) (same_found told) port at (subst (Says c left (matter_in o ins journal slots) F) is (says told))), spared (Err (checks.Output port at)) is (λ e. cc))
-        check_refused (checks.Capture port at why) is = (same, λ told. inr (finds _ told (stop_on c left (matter_in o ins journal slots) (output_in (names_of w words) a) (same_found told) _ (subst (Says c left (matter_in o ins journal slots) F) is (says told)))), spared (Err (checks.Capture port at why)) is (λ e. cc))
-        check_refused (checks.Limit kind) is = (same, λ told. inr (finds _ told (stop_on c left (matter_in o ins journal slots) (output_in (names_of w words) a) (same_found told) _ (subst (Says c left (matter_in o ins journal slots) F) is (says told)))), spared (Err (checks.Limit kind)) is (λ e. cc))
-        check_refused checks.Read is = (same, unread_behind o z heads_a (any_rose is), (rose_of w words a z (any_rose is), λ m. tells.1 m ∙ none.1 m))
-        check_refused checks.Memory is = (same, λ told. tt, spared (Err checks.Memory) is (λ e. cc))
+        check_refused (checks.Line line why) is =
+            let u = used (Err (checks.Line line why)) is in
+            (used_files u, λ told. finds _ told (subst (Says c left (matter_in o ins journal slots) F) is (says told)), counted u)
+        check_refused (checks.Output port at) is =
+            let u = used (Err (checks.Output port at)) is in
+            (used_files u, λ told. finds _ told (output_on c left (matter_in o ins journal slots) (output_in (names_of w words) a) (same_found told) port at (subst (Says c left (matter_in o ins journal slots) F) is (says told))), counted u)
+        check_refused (checks.Capture port at why) is =
+            let u = used (Err (checks.Capture port at why)) is in
+            (used_files u, λ told. inr (finds _ told (stop_on c left (matter_in o ins journal slots) (output_in (names_of w words) a) (same_found told) _ (subst (Says c left (matter_in o ins journal slots) F) is (says told)))), counted u)
+        check_refused (checks.Limit kind) is =
+            let u = used (Err (checks.Limit kind)) is in
+            (used_files u, λ told. inr (finds _ told (stop_on c left (matter_in o ins journal slots) (output_in (names_of w words) a) (same_found told) _ (subst (Says c left (matter_in o ins journal slots) F) is (says told)))), counted u)
+        check_refused checks.Read is =
+            let u = used (Err checks.Read) is in
+            let rose = rose_in is in
+            (used_files u, unread_behind o z heads_a all_o (rose.0, of_slots rose.0 rose.1, rose.2), counted u)
+        check_refused checks.Memory is = let u = used (Err checks.Memory) is in (used_files u, λ told. tt, counted u)

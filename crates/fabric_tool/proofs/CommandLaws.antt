@@ -1,19 +1,19 @@
 -- The laws of each command.
-use Rattle.std.proofs.Common.{◌≡◌, ℕ, ◌<◌, ◌⊎◌, ◌++◌, inl, inr, IsTrue, [], refl, sym, ap, ◌∙◌, arith}
+use Rattle.std.proofs.Common.{◌≡◌, ℕ, ◌⊎◌, ◌++◌, inl, inr, IsTrue, [], refl, sym, ap, ◌∙◌, arith}
 use Rattle.std.proofs.lemmas.List.{append-nil}
 use Rattle.fab_base.specs.Seen.{Seen, SameFiles}
 use Rattle.fab_base.specs.Sunk.{Sunk}
 use Rattle.fab_vectors.specs.Making.{file_text}
 use Rattle.run_files.specs.declared.fault.RunFault.TheVariants as faults
-use Rattle.fabric_tool.specs.Checking.{ReplaySays, ShowSays, replay_end, show_end, ReplayEnded, ShowEnded, replay_meaning, show_meaning}
+use Rattle.fabric_tool.specs.Checking.{ReplaySays, ShowSays, replay_ending, show_ending, ReplayEnded, ShowEnded, replay_meaning, show_meaning}
 use Rattle.fabric_tool.specs.Command.{RunNames, MakeNames, Command, Run, Replay, Show, Convert, Migrate, Make, Snoop, Enode, Live, Help, Version}
 use Rattle.fabric_tool.specs.Ends.{TakesMemory, meaning, Holds}
 use Rattle.fabric_tool.specs.Help.{help_text, version_text}
 use Rattle.fabric_tool.specs.Left.{HasFrontPart}
-use Rattle.fabric_tool.specs.Load.{LOAD, HasLoad, HasLoadFront, MakeEnded, make_end, make_meaning}
+use Rattle.fabric_tool.specs.Load.{LOAD, HasLoad, HasLoadFront, MakeEnded, make_ending, make_meaning}
 use Rattle.fabric_tool.specs.Outcome.{status_of, line_of, made_text}
-use Rattle.fabric_tool.specs.Running.{run_end, RunEnded, run_meaning}
-use Rattle.fabric_tool.specs.Texts.{TextEnded, help_end, version_end, help_meaning, version_meaning}
+use Rattle.fabric_tool.specs.Running.{run_ending, RunEnded, run_meaning}
+use Rattle.fabric_tool.specs.Texts.{TextEnded, help_ending, version_ending, help_meaning, version_meaning}
 use Rattle.fabric_tool.specs.declared.outcome.Outcome.{Outcome}
 use Rattle.fabric_tool.specs.declared.outcome.Outcome.TheVariants as ends
 use Rattle.fabric_tool.proofs.EndingLemmas.{Left, Said, IsAnswer, IsClosed, less, nothing}
@@ -29,7 +29,7 @@ use Rattle.fabric_tool.proofs.LiveExactLemmas.{live_laws}
 
 -- ---- `run`
 
-run_front : (k : RunNames) (old new : Seen) (o : Outcome) → Left (run_end k old new o) → SameFiles old new ⊎ HasFrontPart k old new
+run_front : (k : RunNames) (old new : Seen) (o : Outcome) → Left (run_ending k old new o) → SameFiles old new ⊎ HasFrontPart k old new
 run_front k old new (ends.Ran frames entries) h = inr (ran_part k frames entries old new h)
 run_front k old new (ends.Capture port at reason) h = elim h [ inl bad ↦ inl bad.0 | inr stopped ↦ inr (stopped_part k old new (faults.Capture port at reason) stopped) ]
 run_front k old new (ends.Limit kind) h = inr (stopped_part k old new (faults.Limit kind) h)
@@ -38,7 +38,7 @@ run_front k old new ends.WriteFault h = h
 run_front k old new ends.Memory h = h
 run_front k old new o h = absurd h
 
-run_answered : (k : RunNames) (old new : Seen) (o : Outcome) → Holds (Run k) old new o → TakesMemory o → IsAnswer (run_end k old new o)
+run_answered : (k : RunNames) (old new : Seen) (o : Outcome) → Holds (Run k) old new o → TakesMemory o → IsAnswer (run_ending k old new o)
 run_answered k old new (ends.Ran frames entries) h takes = tt
 run_answered k old new (ends.Config fault) h takes = tt
 run_answered k old new (ends.Capture port at reason) h takes = tt
@@ -54,7 +54,7 @@ run_laws : (k : RunNames) → Laws (run_meaning k)
 run_laws k = record {
   same = λ old new files. inl files;
   whole = run_front k;
-  spare = λ old new o h takes. less (run_meaning k) old new (SameFiles old new ⊎ HasFrontPart k old new) (λ files. inl files) (run_end k old new o) (run_answered k old new o h takes) (run_front k old new o) h;
+  spare = λ old new o h takes. less (run_meaning k) old new (SameFiles old new ⊎ HasFrontPart k old new) (λ files. inl files) (run_ending k old new o) (run_answered k old new o h takes) (run_front k old new o) h;
   done = done_run k;
   once = λ old new o p told h says. elim (run_once k old new told o p h says) [ inl is ↦ inl (alike o p is) | inr memory ↦ inr memory ];
   formed = λ old new o forms. run_formed k old new forms.told forms o;
@@ -62,11 +62,11 @@ run_laws k = record {
 
 -- ---- `replay` and `show`
 
-replay_whole : (k : RunNames) (old new : Seen) (o : Outcome) → Left (replay_end k old new o) → SameFiles old new
+replay_whole : (k : RunNames) (old new : Seen) (o : Outcome) → Left (replay_ending k old new o) → SameFiles old new
 replay_whole k old new ends.Memory h = absurd h
 replay_whole k old new o h = absurd h
 
-replay_closed : (k : RunNames) (old new : Seen) (o : Outcome) → Holds (Replay k) old new o → TakesMemory o → IsClosed (replay_end k old new o)
+replay_closed : (k : RunNames) (old new : Seen) (o : Outcome) → Holds (Replay k) old new o → TakesMemory o → IsClosed (replay_ending k old new o)
 replay_closed k old new (ends.Legal entries) h takes = tt
 replay_closed k old new (ends.WrongLine line why) h takes = tt
 replay_closed k old new (ends.WrongOutput port at) h takes = tt
@@ -75,7 +75,7 @@ replay_closed k old new (ends.Capture port at why) h takes = tt
 replay_closed k old new (ends.Limit kind) h takes = tt
 replay_closed k old new o h takes = absurd (omega arith)
 
-replay_says : (k : RunNames) (old new : Seen) → IsTrue old.told → (o : Outcome) → Said old (replay_end k old new o) → ReplaySays k old o ⊎ (o ≡ ends.Memory)
+replay_says : (k : RunNames) (old new : Seen) → IsTrue old.told → (o : Outcome) → Said old (replay_ending k old new o) → ReplaySays k old o ⊎ (o ≡ ends.Memory)
 replay_says k old new told (ends.Legal entries) h = inl (h told)
 replay_says k old new told (ends.WrongLine line why) h = inl (h told)
 replay_says k old new told (ends.WrongOutput port at) h = inl (h told)
@@ -94,17 +94,17 @@ replay_laws : (k : RunNames) → Laws (replay_meaning k)
 replay_laws k = record {
   same = λ old new files. files;
   whole = replay_whole k;
-  spare = λ old new o h takes. nothing (replay_meaning k) old new (replay_end k old new o) (replay_closed k old new o h takes) h;
+  spare = λ old new o h takes. nothing (replay_meaning k) old new (replay_ending k old new o) (replay_closed k old new o h takes) h;
   done = done_replay k;
   once = λ old new o p told h says. elim (replay_says k old new told o h) [ inl mine ↦ inl (replay_one k old o p mine says) | inr memory ↦ inr memory ];
   formed = λ old new o forms h. elim (replay_says k old new forms.0 o h) [ inl mine ↦ inl (ap status_of (only_legal k old forms.1 forms.2 o mine)) | inr memory ↦ inr memory ];
 }
 
-show_whole : (k : RunNames) (old new : Seen) (o : Outcome) → Left (show_end k old new o) → SameFiles old new
+show_whole : (k : RunNames) (old new : Seen) (o : Outcome) → Left (show_ending k old new o) → SameFiles old new
 show_whole k old new ends.Memory h = absurd h
 show_whole k old new o h = absurd h
 
-show_closed : (k : RunNames) (old new : Seen) (o : Outcome) → Holds (Show k) old new o → TakesMemory o → IsClosed (show_end k old new o)
+show_closed : (k : RunNames) (old new : Seen) (o : Outcome) → Holds (Show k) old new o → TakesMemory o → IsClosed (show_ending k old new o)
 show_closed k old new (ends.WrongLine line why) h takes = tt
 show_closed k old new (ends.WrongOutput port at) h takes = tt
 show_closed k old new (ends.Config fault) h takes = tt
@@ -112,7 +112,7 @@ show_closed k old new (ends.Capture port at why) h takes = tt
 show_closed k old new (ends.Limit kind) h takes = tt
 show_closed k old new o h takes = absurd (omega arith)
 
-show_says : (k : RunNames) (old new : Seen) → IsTrue old.told → (o : Outcome) → Said old (show_end k old new o) → ShowSays k old o ⊎ (o ≡ ends.Memory)
+show_says : (k : RunNames) (old new : Seen) → IsTrue old.told → (o : Outcome) → Said old (show_ending k old new o) → ShowSays k old o ⊎ (o ≡ ends.Memory)
 show_says k old new told (ends.WrongOutput port at) h = absurd (h told)
 show_says k old new told (ends.Shown text) h = inl (h told)
 show_says k old new told (ends.WrongLine line why) h = inl (h told)
@@ -131,7 +131,7 @@ show_laws : (k : RunNames) → Laws (show_meaning k)
 show_laws k = record {
   same = λ old new files. files;
   whole = show_whole k;
-  spare = λ old new o h takes. nothing (show_meaning k) old new (show_end k old new o) (show_closed k old new o h takes) h;
+  spare = λ old new o h takes. nothing (show_meaning k) old new (show_ending k old new o) (show_closed k old new o h takes) h;
   done = done_show k;
   once = λ old new o p told h says. elim (show_says k old new told o h) [ inl mine ↦ inl (show_one k old o p mine says) | inr memory ↦ inr memory ];
   formed = λ old new o forms h. elim (show_says k old new forms.0 o h) [ inl mine ↦ inl (ap status_of (only_shown k old forms.1 forms.2 o mine)) | inr memory ↦ inr memory ];
@@ -143,13 +143,13 @@ show_laws k = record {
 whole_load : (k : MakeNames) (old new : Seen) → HasLoad k new → HasLoadFront k old new
 whole_load k old new has q lt = inr (file_text k.number q, has q lt, ([], append-nil (file_text k.number q)))
 
-make_front : (k : MakeNames) (old new : Seen) (o : Outcome) → Left (make_end k old new o) → HasLoadFront k old new
+make_front : (k : MakeNames) (old new : Seen) (o : Outcome) → Left (make_ending k old new o) → HasLoadFront k old new
 make_front k old new (ends.Made frames) h = whole_load k old new h
 make_front k old new ends.WriteFault h = h
 make_front k old new ends.Memory h = h
 make_front k old new o h = absurd h
 
-make_answered : (k : MakeNames) (old new : Seen) (o : Outcome) → Holds (Make k) old new o → TakesMemory o → IsAnswer (make_end k old new o)
+make_answered : (k : MakeNames) (old new : Seen) (o : Outcome) → Holds (Make k) old new o → TakesMemory o → IsAnswer (make_ending k old new o)
 make_answered k old new (ends.Made frames) h takes = tt
 make_answered k old new o h takes = absurd (omega arith)
 
@@ -158,7 +158,7 @@ unfolding line_of
 done_make k old new before after (ends.Made frames) is h printed = λ told. record { load = h.1.1 told; printed = λ sunk. printed sunk ∙ ap (λ (n : ℕ). before.written ++ made_text n) h.0 }
 done_make k old new before after o is h printed = absurd (omega arith)
 
-load_end : (k : MakeNames) (old new : Seen) (o : Outcome) → Said old (make_end k old new o) → (o ≡ ends.Made LOAD) ⊎ (o ≡ ends.Memory)
+load_end : (k : MakeNames) (old new : Seen) (o : Outcome) → Said old (make_ending k old new o) → (o ≡ ends.Made LOAD) ⊎ (o ≡ ends.Memory)
 load_end k old new (ends.Made frames) h = inl (ap (λ (n : ℕ). ends.Made n) h.0)
 load_end k old new ends.Memory h = inr refl
 load_end k old new o h = absurd h
@@ -167,7 +167,7 @@ make_laws : (k : MakeNames) → Laws (make_meaning k)
 make_laws k = record {
   same = λ old new files q lt. inl (files _);
   whole = make_front k;
-  spare = λ old new o h takes. less (make_meaning k) old new (HasLoadFront k old new) (λ files q lt. inl (files _)) (make_end k old new o) (make_answered k old new o h takes) (make_front k old new o) h;
+  spare = λ old new o h takes. less (make_meaning k) old new (HasLoadFront k old new) (λ files q lt. inl (files _)) (make_ending k old new o) (make_answered k old new o h takes) (make_front k old new o) h;
   done = done_make k;
   once = λ old new o p told h says. elim (load_end k old new o h) [ inl is ↦ inl (alike o p (is ∙ sym says)) | inr memory ↦ inr memory ];
   formed = λ old new o forms h. elim (load_end k old new o h) [ inl is ↦ inl (ap status_of is) | inr memory ↦ inr memory ];
@@ -175,11 +175,11 @@ make_laws k = record {
 
 -- ---- `--help` and `--version`
 
-help_is : (old new : Seen) (o : Outcome) → Said old (help_end old new o) → o ≡ ends.Help
+help_is : (old new : Seen) (o : Outcome) → Said old (help_ending old new o) → o ≡ ends.Help
 help_is old new ends.Help h = refl
 help_is old new o h = absurd h
 
-help_whole : (old new : Seen) (o : Outcome) → Left (help_end old new o) → SameFiles old new
+help_whole : (old new : Seen) (o : Outcome) → Left (help_ending old new o) → SameFiles old new
 help_whole old new ends.Help h = absurd h
 help_whole old new o h = absurd h
 
@@ -202,11 +202,11 @@ help_laws = record {
   formed = λ old new o forms h. inl (ap status_of (help_is old new o h));
 }
 
-version_is : (old new : Seen) (o : Outcome) → Said old (version_end old new o) → o ≡ ends.Version
+version_is : (old new : Seen) (o : Outcome) → Said old (version_ending old new o) → o ≡ ends.Version
 version_is old new ends.Version h = refl
 version_is old new o h = absurd h
 
-version_whole : (old new : Seen) (o : Outcome) → Left (version_end old new o) → SameFiles old new
+version_whole : (old new : Seen) (o : Outcome) → Left (version_ending old new o) → SameFiles old new
 version_whole old new ends.Version h = absurd h
 version_whole old new o h = absurd h
 

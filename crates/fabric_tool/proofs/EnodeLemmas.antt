@@ -21,7 +21,7 @@ use Rattle.run_files.specs.declared.fault.RunFault.{RunFault}
 use Rattle.run_files.specs.declared.fault.RunFault.TheVariants as faults
 use Rattle.fabric_tool.specs.Command.{EnodeNames, Enode}
 use Rattle.fabric_tool.specs.Ends.{TakesMemory, Holds, KeepsOthers}
-use Rattle.fabric_tool.specs.Enode.{task_of, HasPlayed, HasEnodeFront, enode_end, EnodeEnded, EnodeForms, EnodeSays, enode_meaning}
+use Rattle.fabric_tool.specs.Enode.{task_of, HasPlayed, HasEnodeFront, enode_ending, EnodeEnded, EnodeForms, EnodeSays, enode_meaning}
 use Rattle.fabric_tool.specs.Inputs.{LIMITS}
 use Rattle.fabric_tool.specs.Opening.{stopped_by, stood_by}
 use Rattle.fabric_tool.specs.Outcome.{status_of, line_of}
@@ -39,13 +39,13 @@ whole_sent k old new last p =
     let whole = capture (all_sent k.own k.start p.inputs) in
     Front p.bytes p.records p.inputs (length whole) p.found p.taken p.run (p.output ∙ ap (λ (l : List ℕ). Some l) (sym (take_all (length whole) whole (omega arith))))
 
-enode_front : (k : EnodeNames) (old new : Seen) (o : Outcome) → Left (enode_end k old new o) → HasEnodeFront k old new
+enode_front : (k : EnodeNames) (old new : Seen) (o : Outcome) → Left (enode_ending k old new o) → HasEnodeFront k old new
 enode_front k old new (ends.Stood last) h = whole_sent k old new last h
 enode_front k old new ends.WriteFault h = h
 enode_front k old new o h = absurd h
 
 -- the line of a last phase takes no memory
-enode_closed : (k : EnodeNames) (old new : Seen) (o : Outcome) → Holds (Enode k) old new o → TakesMemory o → IsClosed (enode_end k old new o)
+enode_closed : (k : EnodeNames) (old new : Seen) (o : Outcome) → Holds (Enode k) old new o → TakesMemory o → IsClosed (enode_ending k old new o)
 enode_closed k old new (ends.Capture port at reason) h takes = tt
 enode_closed k old new (ends.Limit kind) h takes = tt
 enode_closed k old new o h takes = absurd (omega arith)
@@ -93,14 +93,14 @@ module _ (k : EnodeNames) (d : Seen) where
 
   module _ (new : Seen) (told : IsTrue d.told) where
     -- an outcome is what the input names, or want of memory
-    ended : (o : Outcome) → Said d (enode_end k d new o) → Names k d o ⊎ (o ≡ ends.Memory)
+    ended : (o : Outcome) → Said d (enode_ending k d new o) → Names k d o ⊎ (o ≡ ends.Memory)
     ended (ends.Stood last) h = let p = h told in inl (record { bytes = p.bytes; found = p.found; result = Ok p.records; taken = p.taken; ends_so = (p.inputs, p.run, ap (λ (q : Phase). ends.Stood q) p.stands_so) })
     ended (ends.Capture port at why) h = inl (refusal (gather.Capture port at why) (h told))
     ended (ends.Limit kind) h = inl (refusal (gather.Limit kind) (h told))
     ended ends.Memory h = inr refl
     ended o h = absurd h
 
-    enode_once : (o p : Outcome) → Said d (enode_end k d new o) → EnodeSays k d p → PrintsAlike o p ⊎ (o ≡ ends.Memory)
+    enode_once : (o p : Outcome) → Said d (enode_ending k d new o) → EnodeSays k d p → PrintsAlike o p ⊎ (o ≡ ends.Memory)
     enode_once o p holds says = elim (ended o holds) [ inl names ↦ inl (alike o p (named_once o p names (said p says))) | inr memory ↦ inr memory ]
 
     -- a run ends with status 0
@@ -108,7 +108,7 @@ module _ (k : EnodeNames) (d : Seen) where
     stood (Ok xs) records o e at = ap status_of at.2
     stood (Err fault) records o e at = absurd (cc)
 
-    enode_formed : EnodeForms k d → (o : Outcome) → Said d (enode_end k d new o) → (status_of o ≡ 0) ⊎ (o ≡ ends.Memory)
+    enode_formed : EnodeForms k d → (o : Outcome) → Said d (enode_ending k d new o) → (status_of o ≡ 0) ⊎ (o ≡ ends.Memory)
     enode_formed forms o holds = elim (ended o holds) [
       | inl names ↦ inl (stood names.result forms.records o (same_taken names.bytes forms.bytes names.result (Ok forms.records) names.found forms.file names.taken forms.taken) names.ends_so)
       | inr memory ↦ inr memory
@@ -125,7 +125,7 @@ pub enode_laws : (k : EnodeNames) → Laws (enode_meaning k)
 enode_laws k = record {
   same = λ old new files. Same (files k.to);
   whole = enode_front k;
-  spare = λ old new o h takes. nothing (enode_meaning k) old new (enode_end k old new o) (enode_closed k old new o h takes) h;
+  spare = λ old new o h takes. nothing (enode_meaning k) old new (enode_ending k old new o) (enode_closed k old new o h takes) h;
   done = done_enode k;
   once = λ old new o p told. enode_once k old new told o p;
   formed = λ old new o forms. enode_formed k old new forms.told forms o;

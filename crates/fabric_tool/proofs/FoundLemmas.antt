@@ -18,7 +18,7 @@ use Rattle.fabric_tool.specs.Command.{RunNames}
 use Rattle.fabric_tool.specs.Inputs.{HasFault, IsOpened, AreOpened, HasInputs, HasNoHead, HasBadHead, StopsBy, stop_of}
 use Rattle.fabric_tool.specs.Opening.{ran_by}
 use Rattle.fabric_tool.specs.Outcome.{status_of}
-use Rattle.fabric_tool.specs.Running.{run_end, RunSays, RunForms}
+use Rattle.fabric_tool.specs.Running.{run_ending, RunSays, RunForms}
 use Rattle.fabric_tool.specs.declared.outcome.Outcome.{Outcome}
 use Rattle.fabric_tool.specs.declared.outcome.Outcome.TheVariants as ends
 use Rattle.fabric_tool.proofs.ConfigLemmas.{same_text, one_value, one_fault, no_fault}
@@ -167,7 +167,7 @@ module _ (k : RunNames) (d : Seen) where
 
   module _ (new : Seen) (told : IsTrue d.told) where
     -- where nothing fails, an outcome is what the inputs say, or want of memory
-    found : (o : Outcome) → Said d (run_end k d new o) → Finds k d o ⊎ (o ≡ ends.Memory)
+    found : (o : Outcome) → Said d (run_ending k d new o) → Finds k d o ⊎ (o ≡ ends.Memory)
     found (ends.Ran frames entries) h = let r = h told in inl (inr (inr (record { settings = r.settings; opened = r.opened; inputs = r.inputs; at = None; is = r.none; says = (frames, entries, refl) })))
     found (ends.Config fault) h = inl (inl (fault, h told, refl))
     found (ends.Capture port at reason) h = elim (h told) [
@@ -178,7 +178,7 @@ module _ (k : RunNames) (d : Seen) where
     found ends.Memory h = inr refl
     found o h = absurd h
 
-    pub run_once : (o p : Outcome) → Said d (run_end k d new o) → RunSays k d p → (o ≡ p) ⊎ (o ≡ ends.Memory)
+    pub run_once : (o p : Outcome) → Said d (run_ending k d new o) → RunSays k d p → (o ≡ p) ⊎ (o ≡ ends.Memory)
     run_once o p holds says = elim (found o holds) [
       | inl finds ↦ let s = said p says in inl (one_end o p finds s.0 s.1)
       | inr memory ↦ inr memory
@@ -188,7 +188,7 @@ module _ (k : RunNames) (d : Seen) where
     ran_at o None e at = ap status_of at.2
     ran_at o (Some s) e at = absurd (cc)
 
-    pub run_formed : RunForms k d → (o : Outcome) → Said d (run_end k d new o) → (status_of o ≡ 0) ⊎ (o ≡ ends.Memory)
+    pub run_formed : RunForms k d → (o : Outcome) → Said d (run_ending k d new o) → (status_of o ≡ 0) ⊎ (o ≡ ends.Memory)
     run_formed forms o holds = elim (found o holds) [
       | inl finds ↦ inl (elim finds [
         | inl fault ↦ absurd (no_fault d k.config forms.settings fault.0 forms.inputs.config fault.1)

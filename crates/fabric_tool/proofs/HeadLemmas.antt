@@ -2,11 +2,11 @@
 use Rattle.std.proofs.Common.{◌≡◌, ℕ, ◌+◌, ◌*◌, ◌<◌, ◌≤◌, List, [], ◌∷◌, ◌++◌, length, length-append, Ok, Err, IsTrue, refl, sym, ap, ◌∙◌, subst, arith, inl, inr}
 use Rattle.std.specs.Prelude.{Vec, Result}
 use Rattle.std.specs.declared.alloc.Global.{Global}
-use Rattle.fab_base.specs.Ending.{SparesReads}
-use Rattle.fab_base.specs.Seen.{Seen, Reads, Rose, OpensIn, Touches, Nothing, Only, SameReadFaults, SameWriteFaults}
+use Rattle.fab_base.specs.Ending.{End, Said, Read, Uses}
+use Rattle.fab_base.specs.Seen.{Seen, OpensIn, Touches, Nothing, Only}
 use Rattle.fab_base.specs.declared.values.Failed.{Failed}
-use Rattle.fab_base.proofs.EndingLemmas.{spares_reads_then}
-use Rattle.fab_base.proofs.SeenLemmas.{reads_trans, rose_later, told_stays, touches_refl, touches_trans, touches_wider, reads_touches}
+use Rattle.fab_base.proofs.EndingLemmas.{uses_none, uses_refused, uses_then, uses_wider, uses_read, rose_only, opens_in_uses}
+use Rattle.fab_base.proofs.SeenLemmas.{rose_later, told_stays}
 use Rattle.pcap_file.specs.Capture.{HEAD}
 use Rattle.pcap_file.specs.Reading.{Reading, OpensReader, to_come}
 use Rattle.pcap_file.specs.declared.Budget.{Budget}
@@ -22,25 +22,26 @@ use Rattle.fabric_tool.specs.Outcome.{outcome_end}
 use Rattle.fabric_tool.specs.Reading.{IsHead, HeadRead, HeadEnds, AreHeads, HeadsRead, HeadsEnd, unopened_by}
 use Rattle.fabric_tool.specs.declared.outcome.Outcome.{Outcome}
 use Rattle.fabric_tool.specs.declared.outcome.Outcome.TheVariants as ends
-use Rattle.run_files.proofs.NameLemmas.{among_front, among_back, among_split, rose_among, rose_since}
+use Rattle.fabric_tool.proofs.UseLemmas.{used_touches, used_files, used_told}
+use Rattle.run_files.proofs.NameLemmas.{among_front, among_back, among_all}
 
 -- ---- one capture
 
 pub head_unopened : (port : ℕ) (name : List ℕ) (a b : Seen) (had : Budget) (e : Failed) → OpensIn {E = Failed} name a b (Err e) → HeadRead port name a b had had (Err ends.ReadFault)
-head_unopened port name a b had e o = record { reads = o.reads; head = tt; taken = tt; ended = o.cause; counts = tt }
+head_unopened port name a b had e o = record { uses = opens_in_uses a b name (Err e) o; head = tt; taken = tt; ended = tt }
 
 module _ (port : ℕ) (name : List ℕ) (s : ℕ) (a b c : Seen) (had left : Budget) (o : OpensIn {E = Failed} name a b (Ok s)) where
   told_b : IsTrue a.told → IsTrue b.told
   told_b = told_stays name a b o.reads.keeps
 
-  all_reads : Reads (b.name s) b c → Reads name a c
-  all_reads more = reads_trans name a b c o.reads (subst (λ n. Reads n b c) o.opened.2 more)
+  behind_it : (end : End) → Uses (Only (b.name s)) Nothing end b c → Uses (Only name) Nothing end a c
+  behind_it end u = uses_then (Only name) Nothing end a b c (opens_in_uses a b name (Ok s) o) (subst (λ n. Uses (Only n) Nothing end b c) o.opened.2 u)
 
   pub head_opened : (i : Input) → i.slot ≡ s → OpensReader s b c had left (Ok i.reader) → HeadRead port name a c had left (Ok i)
   head_opened i at r =
       let same = r.reads.keeps.slots s (inl o.opened.0) in
       record {
-        reads = all_reads r.reads;
+        uses = behind_it Said (uses_read (b.name s) Said b c r.reads (r.counts, r.reads.writes));
         head = record {
           slot = subst (λ (k : ℕ). IsTrue (c.input k)) (sym at) (subst IsTrue (sym same.input) o.opened.0);
           name_ = ap c.name at ∙ same.name ∙ o.opened.2;
@@ -54,7 +55,6 @@ module _ (port : ℕ) (name : List ℕ) (s : ℕ) (a b c : Seen) (had left : Bud
         };
         taken = r.taken;
         ended = tt;
-        counts = λ m. r.counts m ∙ o.counts m;
       }
 
   -- a fault of the head isn't told where the budget has no room for it
@@ -64,24 +64,18 @@ module _ (port : ℕ) (name : List ℕ) (s : ℕ) (a b c : Seen) (had left : Bud
     | inr lt ↦ absurd (let same = none lt in cc)
   ]
 
-  failed_as : (e : CapOpen) → OpensReader s b c had left (Err e) → HeadEnds port name had.bytes a c (unopened_by e port)
+  failed_as : (e : CapOpen) → OpensReader s b c had left (Err e) → HeadEnds port name had.bytes a (unopened_by e port)
   failed_as (opens.Head fault) r = (refl, refl, enough fault (r.bytes).1, λ told. record { bytes = b.left s; file = o.left told; fault = fault; says = r.refused (told_b told); word = refl })
-  failed_as (opens.Read f) r = rose_later _ _ _ o.reads.keeps.reads_rise (subst (λ n. Rose (b.read_faults n) (c.read_faults n)) o.opened.2 r.refused)
+  failed_as (opens.Read f) r = tt
   failed_as opens.Bytes r = (refl, (r.bytes).0 refl)
 
-  spares_as : (e : CapOpen) → OpensReader s b c had left (Err e) → SparesReads (outcome_end (unopened_by e port)) a c
-  spares_as (opens.Head fault) r = λ m. r.counts m ∙ o.counts m
-  spares_as (opens.Read f) r = tt
-  spares_as opens.Bytes r = λ m. r.counts m ∙ o.counts m
+  used_as : (e : CapOpen) → OpensReader s b c had left (Err e) → Uses (Only (b.name s)) Nothing (outcome_end (unopened_by e port)) b c
+  used_as (opens.Head fault) r = uses_read (b.name s) Said b c r.reads (r.counts, r.reads.writes)
+  used_as (opens.Read f) r = uses_read (b.name s) Read b c r.reads (r.refused, r.reads.writes)
+  used_as opens.Bytes r = uses_read (b.name s) Said b c r.reads (r.counts, r.reads.writes)
 
   pub head_failed : (e : CapOpen) (x : Outcome) → x ≡ unopened_by e port → OpensReader s b c had left (Err e) → HeadRead port name a c had left (Err x)
-  head_failed e x is r = record {
-    reads = all_reads r.reads;
-    head = tt;
-    taken = tt;
-    ended = subst (HeadEnds port name had.bytes a c) (sym is) (failed_as e r);
-    counts = subst (λ (y : Outcome). SparesReads (outcome_end y) a c) (sym is) (spares_as e r);
-  }
+  head_failed e x is r = subst (λ (y : Outcome). HeadRead port name a c had left (Err y)) (sym is) (record { uses = behind_it (outcome_end (unopened_by e port)) (used_as e r); head = tt; taken = tt; ended = failed_as e r })
 
 -- ---- all captures
 
@@ -142,54 +136,44 @@ heads_opened a d (n ∷ names) (i ∷ ins) told are = (are.0.opened told, heads_
 
 -- what stands for the loop when the heads under these names were read
 pub record HeadsSoFar (names : List (List ℕ)) (a now : Seen) (ins : List Input) (had left : Budget) : Type 0 where
-  pub touches : Touches Nothing (Among names) a now
+  pub uses : Uses (Among names) Nothing Said a now
   pub heads : AreHeads a now names ins
   pub bytes : left.bytes + 24 * length names ≡ had.bytes
   pub frames : left.frames ≡ had.frames
-  pub reads : SameReadFaults a now
-  pub writes : SameWriteFaults a now
 
 pub heads_none : (a : Seen) (had : Budget) → HeadsSoFar [] a a [] had had
-heads_none a had = record { touches = touches_refl Nothing (Among []) a; heads = tt; bytes = omega arith; frames = refl; reads = λ m. refl; writes = λ m. refl }
+heads_none a had = record { uses = uses_none (Among []) Nothing a; heads = tt; bytes = omega arith; frames = refl }
 
 module _ (names : List (List ℕ)) (a b : Seen) (ins : List Input) (had left : Budget) (h : HeadsSoFar names a b ins had left) where
   told_now : IsTrue a.told → IsTrue b.told
-  told_now told = subst IsTrue (sym h.touches.told) told
+  told_now = used_told h.uses
 
   same_files : (m : List ℕ) → b.file m ≡ a.file m
-  same_files m = h.touches.files m (λ x. x)
+  same_files = used_files h.uses
 
   module _ (port : ℕ) (name : List ℕ) (d : Seen) (left' : Budget) where
-    touch : Reads name b d → Touches Nothing (Among (names ++ name ∷ [])) a d
-    touch reads = touches_trans Nothing (Among (names ++ name ∷ [])) a b d
-        (touches_wider Nothing (Among names) Nothing (Among (names ++ name ∷ [])) a b (λ m x. x) (λ m x. among_front names (name ∷ []) m x) h.touches)
-        (touches_wider Nothing (Only name) Nothing (Among (names ++ name ∷ [])) b d (λ m x. x) (λ m x. among_back names (name ∷ []) m (inl x)) (reads_touches name b d reads))
+    one_more : (end : End) → Uses (Only name) Nothing end b d → Uses (Among (names ++ name ∷ [])) Nothing end a d
+    one_more end u = uses_then (Among (names ++ name ∷ [])) Nothing end a b d
+        (uses_wider (Among names) Nothing (Among (names ++ name ∷ [])) Nothing (λ m x. among_front names (name ∷ []) m x) (λ m x. x) Said a b h.uses)
+        (uses_wider (Only name) Nothing (Among (names ++ name ∷ [])) Nothing (λ m x. among_back names (name ∷ []) m (inl x)) (λ m x. x) end b d u)
 
     pub heads_more : (i : Input) → (Among names name → ⊥) → HeadRead port name b d left left' (Ok i) → HeadsSoFar (names ++ name ∷ []) a d (ins ++ i ∷ []) had left'
     heads_more i new read = record {
-      touches = touch read.reads;
+      uses = one_more Said read.uses;
       heads = heads_push a d names name ins i
-          (heads_still a b d names ins Nothing (Only name) (reads_touches name b d read.reads) (λ m among is. new (subst (Among names) is among)) h.heads)
+          (heads_still a b d names ins Nothing (Only name) (used_touches read.uses) (λ m among is. new (subst (Among names) is among)) h.heads)
           (head_since a b d same_files told_now name i read.head);
       bytes = let taken = read.taken.0 in let was = h.bytes in omega (arith, length-append names (name ∷ []));
       frames = read.taken.1 ∙ h.frames;
-      reads = λ m. read.counts m ∙ h.reads m;
-      writes = λ m. read.reads.writes m ∙ h.writes m;
     }
 
     -- no more heads are read, of all these names
     module _ (all behind : List (List ℕ)) (are : all ≡ names ++ name ∷ behind) where
-      among_all : (m : List ℕ) → Among (names ++ name ∷ []) m → Among all m
-      among_all m x = subst (λ l. Among l m) (sym are) (elim (among_split names (name ∷ []) m x) [
-        | inl front ↦ among_front names (name ∷ behind) m front
-        | inr own ↦ among_back names (name ∷ behind) m (elim own [ inl is ↦ inl is | inr none ↦ absurd none ])
-      ])
+      of_all : (end : End) → Uses (Only name) Nothing end b d → Uses (Among all) Nothing end a d
+      of_all end u = uses_wider (Among (names ++ name ∷ [])) Nothing (Among all) Nothing (λ m x. subst (λ l. Among l m) (sym are) (among_all names behind name m x)) (λ m x. x) end a d (one_more end u)
 
-      touch_all : Reads name b d → Touches Nothing (Among all) a d
-      touch_all reads = touches_wider Nothing (Among (names ++ name ∷ [])) Nothing (Among all) a d (λ m x. x) among_all (touch reads)
-
-      ended_as : port ≡ length names + 1 → (x : Outcome) → HeadEnds port name left.bytes b d x → HeadsEnd all had.bytes a d x
-      ended_as number (ends.Capture p at reason) e = (
+      ended_as : port ≡ length names + 1 → (x : Outcome) → Uses (Only name) Nothing (outcome_end x) b d → HeadEnds port name left.bytes b x → HeadsEnd all had.bytes a d x
+      ended_as number (ends.Capture p at reason) u e = (
         e.1,
         (let was = h.bytes in let is = e.0 in let room = e.2 in omega arith),
         λ told. record {
@@ -203,54 +187,30 @@ module _ (names : List (List ℕ)) (a b : Seen) (ins : List Input) (had left : B
           without = let no = e.3 (told_now told) in record { bytes = no.bytes; file = sym (same_files name) ∙ no.file; fault = no.fault; says = no.says; word = no.word };
         },
       )
-      ended_as number (ends.Limit kind) e =
+      ended_as number (ends.Limit kind) u e =
           let was = h.bytes in
           let few = e.1 in (
             e.0,
             (let count = ap (λ (l : List (List ℕ)). length l) are in omega (arith, length-append names (name ∷ behind), count)),
             λ told. record { before = names; name = name; behind = behind; are = are; opened = opened_in b ins; heads = heads_opened a b names ins told h.heads; above = omega arith },
           )
-      ended_as number ends.ReadFault e = (
-        rose_since a.read_faults b.read_faults d.read_faults h.touches.reads_rise all (rose_among b.read_faults d.read_faults all name (subst (λ l. Among l name) (sym are) (among_back names (name ∷ behind) name (inl refl))) e),
-        λ told. record {
-          before = names;
-          name = name;
-          behind = behind;
-          are = are;
-          opened = opened_in b ins;
-          heads = heads_opened a b names ins told h.heads;
-          within = (let was = h.bytes in omega arith);
-          rose = rose_later _ _ _ (h.touches.reads_rise name) e;
-        },
-      )
-      ended_as number x e = absurd e
+      ended_as number ends.ReadFault u e = λ told. record {
+        before = names;
+        name = name;
+        behind = behind;
+        are = are;
+        opened = opened_in b ins;
+        heads = heads_opened a b names ins told h.heads;
+        within = (let was = h.bytes in omega arith);
+        rose = rose_later _ _ _ (h.uses.touches.reads_rise name) (rose_only name b.read_faults d.read_faults u.counts.0);
+      }
+      ended_as number x u e = absurd e
 
       pub heads_failed : port ≡ length names + 1 → (x : Outcome) → HeadRead port name b d left left' (Err x) → HeadsRead all a d had left' (Err x)
-      heads_failed number x read = record {
-        touches = touch_all read.reads;
-        heads = tt;
-        taken = tt;
-        ended = ended_as number x read.ended;
-        counts = spares_reads_then (outcome_end x) a b d h.reads read.counts;
-        writes = λ m. read.reads.writes m ∙ h.writes m;
-      }
+      heads_failed number x read = record { uses = of_all (outcome_end x) read.uses; heads = tt; taken = tt; ended = ended_as number x read.uses read.ended }
 
       pub heads_no_room : (i : Input) → HeadRead port name b d left left' (Ok i) → HeadsRead all a d had left' (Err ends.Memory)
-      heads_no_room i read = record {
-        touches = touch_all read.reads;
-        heads = tt;
-        taken = tt;
-        ended = tt;
-        counts = λ m. read.counts m ∙ h.reads m;
-        writes = λ m. read.reads.writes m ∙ h.writes m;
-      }
+      heads_no_room i read = record { uses = uses_refused (Among all) Nothing a d (of_all Said read.uses); heads = tt; taken = tt; ended = tt }
 
   pub heads_all : (v : Vec Input Global) → v.items ≡ ins → HeadsRead names a b had left (Ok v)
-  heads_all v is = record {
-    touches = h.touches;
-    heads = subst (AreHeads a b names) (sym is) h.heads;
-    taken = (h.bytes, h.frames);
-    ended = tt;
-    counts = h.reads;
-    writes = h.writes;
-  }
+  heads_all v is = record { uses = h.uses; heads = subst (AreHeads a b names) (sym is) h.heads; taken = (h.bytes, h.frames); ended = tt }

@@ -1,12 +1,13 @@
 -- A journal that is read whole, and outputs that are opened to be read.
 use Rattle.std.proofs.Common.{◌≡◌, ℕ, ◌+◌, ◌-◌, ◌<◌, ◌≤◌, List, [], ◌∷◌, ◌++◌, length, true, Some, Ok, Err, IsTrue, refl, sym, ap, ◌∙◌, subst, arith, inl, inr}
 use Rattle.std.specs.Prelude.{Result, Vec, String, map}
+use Rattle.std.specs.Result.{IsErrAnd}
 use Rattle.std.specs.declared.alloc.Global.{Global}
-use Rattle.fab_base.specs.Ending.{NoFaults, SparesReads}
-use Rattle.fab_base.specs.Seen.{Seen, Reads, Rose, OpensIn, Touches, Nothing, Only, SameReadFaults, SameWriteFaults}
+use Rattle.fab_base.specs.Ending.{End, Said, Read, Memory, Uses}
+use Rattle.fab_base.specs.Seen.{Seen, OpensIn, Touches, Nothing, Only}
 use Rattle.fab_base.specs.declared.values.Failed.{Failed}
 use Rattle.fab_base.specs.Places.{name_at}
-use Rattle.fab_base.proofs.SeenLemmas.{reads_trans, rose_later, told_stays, touches_refl, touches_trans, touches_wider, reads_touches}
+use Rattle.fab_base.proofs.SeenLemmas.{rose_later, told_stays, reads_touches}
 use Rattle.fab_base.specs.Whole.{WholeRead, IsWhole}
 use Rattle.fab_base.specs.declared.whole.WholeError.{WholeError}
 use Rattle.fab_base.specs.declared.whole.WholeError.TheVariants as errors
@@ -14,7 +15,7 @@ use Rattle.fab_config.specs.Settings.{Settings}
 use Rattle.fab_base.specs.Counting.{counting}
 use Rattle.fabric_tool.specs.Checking.{JournalRead, JournalEnds, AreOpenInputs, OutputsRead, unread_by, GivenRead, GivenEnds}
 use Rattle.fabric_tool.specs.Command.{RunNames, are_pairs, run_of, show_of, names_of, port_count, output_at}
-use Rattle.run_files.specs.Names.{Among, AnyRose}
+use Rattle.run_files.specs.Names.{Among}
 use Rattle.fabric_tool.specs.Inputs.{MOST_BYTES}
 use Rattle.fabric_tool.specs.Outcome.{outcome_end}
 use Rattle.fabric_tool.specs.Reading.{ConfigRead}
@@ -22,54 +23,55 @@ use Rattle.fabric_tool.specs.declared.command.Width.{Width}
 use Rattle.fabric_tool.specs.declared.command.Width.TheVariants as widths
 use Rattle.fabric_tool.specs.declared.outcome.Outcome.{Outcome}
 use Rattle.fabric_tool.specs.declared.outcome.Outcome.TheVariants as ends
-use Rattle.fab_base.proofs.EndingLemmas.{none_yet, none_then, spares_reads_then}
-use Rattle.run_files.proofs.NameLemmas.{among_front, among_back, among_split, rose_among, rose_since, split_names, push_name, length-counted}
+use Rattle.fab_base.proofs.EndingLemmas.{uses_none, uses_then, uses_wider, uses_read, rose_only, opens_in_uses}
+use Rattle.fab_replay.proofs.ResultLemmas.{err_is}
+use Rattle.run_files.proofs.NameLemmas.{among_front, among_back, among_all, split_names, push_name, length-counted}
 use Rattle.fabric_tool.proofs.NameLemmas.{new_output}
+use Rattle.fabric_tool.proofs.ReadLemmas.{config_refused}
+use Rattle.fabric_tool.proofs.UseLemmas.{used_files, used_told}
 
 -- ---- the journal
 
 pub journal_unopened : (name : List ℕ) (limit : ℕ) (a b : Seen) (e : Failed) → OpensIn {E = Failed} name a b (Err e) → JournalRead name limit a b (Err ends.ReadFault)
-journal_unopened name limit a b e o = record { reads = o.reads; ok = λ told. tt; within = tt; ended = o.cause; counts = tt }
+journal_unopened name limit a b e o = record { uses = opens_in_uses a b name (Err e) o; ok = λ told. tt; within = tt; ended = tt }
 
 module _ (name : List ℕ) (limit s : ℕ) (a b c : Seen) (o : OpensIn {E = Failed} name a b (Ok s)) where
   told_b : IsTrue a.told → IsTrue b.told
   told_b = told_stays name a b o.reads.keeps
 
-  all_reads : Reads (b.name s) b c → Reads name a c
-  all_reads more = reads_trans name a b c o.reads (subst (λ n. Reads n b c) o.opened.2 more)
+  behind : (end : End) → Uses (Only (b.name s)) Nothing end b c → Uses (Only name) Nothing end a c
+  behind end u = uses_then (Only name) Nothing end a b c (opens_in_uses a b name (Ok s) o) (subst (λ n. Uses (Only n) Nothing end b c) o.opened.2 u)
 
   pub journal_read : (v : Vec ℕ Global) → WholeRead s limit b c (Ok v) → length v.items ≤ limit → JournalRead name limit a c (Ok v)
   journal_read v w within = record {
-    reads = all_reads w.reads;
+    uses = behind Said (uses_read (b.name s) Said b c w.reads (w.counts, w.reads.writes));
     ok = λ told. o.left told ∙ ap (λ (l : List ℕ). Some l) (sym (w.whole (told_b told)).0);
     within = within;
     ended = tt;
-    counts = λ m. w.counts m ∙ o.counts m;
   }
 
   pub journal_unread : (e : WholeError) (x : Outcome) → x ≡ unread_by e → WholeRead s limit b c (Err e) → JournalRead name limit a c (Err x)
-  journal_unread e x is w = record { reads = all_reads w.reads; ok = λ told. tt; within = tt; ended = subst (JournalEnds name limit a c) (sym is) (go e w.whole); counts = subst (λ (y : Outcome). SparesReads (outcome_end y) a c) (sym is) (spares_as e w) }
+  journal_unread e x is w = subst (λ (y : Outcome). JournalRead name limit a c (Err y)) (sym is) (record { uses = behind (outcome_end (unread_by e)) (used_as e w); ok = λ told. tt; within = tt; ended = go e w.whole })
     where
-      go : (e : WholeError) → IsWhole s limit b c (Err e) → JournalEnds name limit a c (unread_by e)
+      go : (e : WholeError) → IsWhole s limit b c (Err e) → JournalEnds name limit a (unread_by e)
       go errors.Bytes whole = (refl, λ told. (b.left s, o.left told, whole (told_b told)))
-      go (errors.Read f) whole = rose_later _ _ _ o.reads.keeps.reads_rise (subst (λ n. Rose (b.read_faults n) (c.read_faults n)) o.opened.2 whole)
+      go (errors.Read f) whole = tt
       go errors.Memory whole = tt
 
-      spares_as : (e : WholeError) → WholeRead s limit b c (Err e) → SparesReads (outcome_end (unread_by e)) a c
-      spares_as errors.Bytes w = λ m. w.counts m ∙ o.counts m
-      spares_as (errors.Read f) w = tt
-      spares_as errors.Memory w = λ m. w.counts m ∙ o.counts m
+      used_as : (e : WholeError) → WholeRead s limit b c (Err e) → Uses (Only (b.name s)) Nothing (outcome_end (unread_by e)) b c
+      used_as errors.Bytes w = uses_read (b.name s) Said b c w.reads (w.counts, w.reads.writes)
+      used_as (errors.Read f) w = uses_read (b.name s) Read b c w.reads (w.whole, w.reads.writes)
+      used_as errors.Memory w = uses_read (b.name s) Memory b c w.reads (w.counts, w.reads.writes)
 
 -- ---- the outputs
 
 -- what stands for the loop when the outputs of these names were opened
 pub record ReadSoFar (names : List (List ℕ)) (a now : Seen) (slots : List ℕ) : Type 0 where
-  pub touches : Touches Nothing (Among names) a now
+  pub uses : Uses (Among names) Nothing Said a now
   pub are : AreOpenInputs a now names slots
-  pub counts : NoFaults a now
 
 pub read_none : (a : Seen) → ReadSoFar [] a a []
-read_none a = record { touches = touches_refl Nothing (Among []) a; are = tt; counts = none_yet a }
+read_none a = record { uses = uses_none (Among []) Nothing a; are = tt }
 
 -- open inputs are as they were after calls on other names
 pub inputs_still : (a b d : Seen) (names : List (List ℕ)) (slots : List ℕ) (may counted : List ℕ → Type 0) → Touches may counted b d → ((m : List ℕ) → Among names m → counted m → ⊥) → AreOpenInputs a b names slots → AreOpenInputs a d names slots
@@ -94,34 +96,22 @@ inputs_push a d (n ∷ names) [] name s are is = absurd are
 inputs_push a d (n ∷ names) (x ∷ slots) name s are is = (are.0, inputs_push a d names slots name s are.1 is)
 
 module _ (names : List (List ℕ)) (a b : Seen) (slots : List ℕ) (h : ReadSoFar names a b slots) (name : List ℕ) (d : Seen) where
-  told_now : IsTrue a.told → IsTrue b.told
-  told_now told = subst IsTrue (sym h.touches.told) told
-
-  touch : Reads name b d → Touches Nothing (Among (names ++ name ∷ [])) a d
-  touch reads = touches_trans Nothing (Among (names ++ name ∷ [])) a b d
-      (touches_wider Nothing (Among names) Nothing (Among (names ++ name ∷ [])) a b (λ m x. x) (λ m x. among_front names (name ∷ []) m x) h.touches)
-      (touches_wider Nothing (Only name) Nothing (Among (names ++ name ∷ [])) b d (λ m x. x) (λ m x. among_back names (name ∷ []) m (inl x)) (reads_touches name b d reads))
+  one_more : (end : End) → Uses (Only name) Nothing end b d → Uses (Among (names ++ name ∷ [])) Nothing end a d
+  one_more end u = uses_then (Among (names ++ name ∷ [])) Nothing end a b d
+      (uses_wider (Among names) Nothing (Among (names ++ name ∷ [])) Nothing (λ m x. among_front names (name ∷ []) m x) (λ m x. x) Said a b h.uses)
+      (uses_wider (Only name) Nothing (Among (names ++ name ∷ [])) Nothing (λ m x. among_back names (name ∷ []) m (inl x)) (λ m x. x) end b d u)
 
   pub read_more : (s : ℕ) → (Among names name → ⊥) → OpensIn {E = Failed} name b d (Ok s) → ReadSoFar (names ++ name ∷ []) a d (slots ++ s ∷ [])
   read_more s new o = record {
-    touches = touch o.reads;
+    uses = one_more Said (opens_in_uses b d name (Ok s) o);
     are = inputs_push a d names slots name s
         (inputs_still a b d names slots Nothing (Only name) (reads_touches name b d o.reads) (λ m among is. new (subst (Among names) is among)) h.are)
-        (o.opened.0, o.opened.2, λ told. sym (h.touches.files name (λ x. x)) ∙ o.left (told_now told));
-    counts = none_then a b d h.counts (o.counts, o.reads.writes);
+        (o.opened.0, o.opened.2, λ told. sym (used_files h.uses name) ∙ o.left (used_told h.uses told));
   }
 
-  pub read_failed : (all behind : List (List ℕ)) → all ≡ names ++ name ∷ behind → (e : Failed) → OpensIn {E = Failed} name b d (Err e) → Touches Nothing (Among all) a d × AnyRose a.read_faults d.read_faults all × SameWriteFaults a d
-  read_failed all behind are e o = (
-    touches_wider Nothing (Among (names ++ name ∷ [])) Nothing (Among all) a d (λ m x. x)
-        (λ m x. subst (λ l. Among l m) (sym are) (elim (among_split names (name ∷ []) m x) [
-          | inl front ↦ among_front names (name ∷ behind) m front
-          | inr own ↦ among_back names (name ∷ behind) m (elim own [ inl is ↦ inl is | inr none ↦ absurd none ])
-        ]))
-        (touch o.reads),
-    rose_since a.read_faults b.read_faults d.read_faults h.touches.reads_rise all (rose_among b.read_faults d.read_faults all name (subst (λ l. Among l name) (sym are) (among_back names (name ∷ behind) name (inl refl))) o.cause),
-    λ m. o.reads.writes m ∙ h.counts.1 m,
-  )
+  pub read_failed : (all behind : List (List ℕ)) → all ≡ names ++ name ∷ behind → (e : Failed) → OpensIn {E = Failed} name b d (Err e) → Uses (Among all) Nothing Read a d
+  read_failed all behind are e o =
+      uses_wider (Among (names ++ name ∷ [])) Nothing (Among all) Nothing (λ m x. subst (λ l. Among l m) (sym are) (among_all names behind name m x)) (λ m x. x) Read a d (one_more Read (opens_in_uses b d name (Err e) o))
 
 -- the outputs of the ports before this one
 abbrev pub out_names : List (String Global) → ℕ → List (List ℕ)
@@ -135,8 +125,8 @@ module _ (words : List (String Global)) (run : are_pairs words ≡ true) (p : �
 
   pub out_failed : {T : Type 0} (items : T → List ℕ) (e : Failed) → OpensIn {E = Failed} (output_at words p) b d (Err e) → OutputsRead {T = T} items (run_of words) a d (Err e)
   out_failed {T} items e o =
-      let f = read_failed (map (output_at words) (counting 0 p)) a b slots h (output_at words p) d (run_of words).outs (map (output_at words) (counting (p + 1) (port_count words - (p + 1)))) (split_names (output_at words) (port_count words) p lt) e o in
-      record { touches = f.0; slots = tt; cause = f.1; counts = tt; writes = f.2 }
+      let used = read_failed (map (output_at words) (counting 0 p)) a b slots h (output_at words p) d (run_of words).outs (map (output_at words) (counting (p + 1) (port_count words - (p + 1)))) (split_names (output_at words) (port_count words) p lt) e o in
+      record { uses = used; slots = tt }
 
 pub outs_count : (a d : Seen) (names : List (List ℕ)) (slots : List ℕ) → AreOpenInputs a d names slots → length slots ≡ length names
 outs_count a d [] [] are = refl
@@ -151,11 +141,15 @@ outs_so_far words p a b slots h = outs_count a b (map (output_at words) (countin
 pub outs_read : (words : List (String Global)) (p : ℕ) (a b : Seen) {T : Type 0} (items : T → List ℕ) (o : T) → p ≡ port_count words → ReadSoFar (map (output_at words) (counting 0 p)) a b (items o) → OutputsRead {T = T} items (run_of words) a b (Ok o)
 outs_read words p a b {T} items o all h =
     let r = subst (λ (n : ℕ). ReadSoFar (map (output_at words) (counting 0 n)) a b (items o)) all h in
-    record { touches = r.touches; slots = r.are; cause = tt; counts = r.counts.0; writes = r.counts.1 }
+    record { uses = r.uses; slots = r.are }
+
+-- an output that can't be opened, in a result that hands it on
+pub outs_handed : {T : Type 0} (r : Result T Failed) (items : T → List ℕ) {k : RunNames} {a b : Seen} (e : Failed) → IsErrAnd r (λ x. x ≡ e) → OutputsRead {T = T} items k a b (Err e) → OutputsRead {T = T} items k a b r
+outs_handed {T} r items {k} {a} {b} e h read = subst (OutputsRead {T = T} items k a b) (err_is r e h) read
 
 -- no outputs
 pub no_outs : (words : List (String Global)) (a : Seen) {T : Type 0} (items : T → List ℕ) (o : T) → items o ≡ [] → OutputsRead {T = T} items (show_of words) a a (Ok o)
-no_outs words a {T} items o none = record { touches = touches_refl Nothing (Among []) a; slots = subst (λ l. AreOpenInputs a a [] l) (sym none) tt; cause = tt; counts = λ m. refl; writes = λ m. refl }
+no_outs words a {T} items o none = record { uses = uses_none (Among []) Nothing a; slots = subst (λ l. AreOpenInputs a a [] l) (sym none) tt }
 
 -- what an opening of a word did
 pub in_as : {m n : List ℕ} {b d : Seen} {r : Result ℕ Failed} → m ≡ n → OpensIn {E = Failed} m b d r → OpensIn {E = Failed} n b d r
@@ -165,66 +159,40 @@ in_as {m} {n} {b} {d} {r} e o = subst (λ l. OpensIn {E = Failed} l b d r) e o
 
 pub given_no_config : (k : RunNames) (a b : Seen) (x : Outcome) → ConfigRead k.config a b (Err x) → GivenRead k a b (Err x)
 given_no_config k a b x r = record {
-  touches = touches_wider Nothing (Only k.config) Nothing (Among (k.config ∷ k.journal ∷ [])) a b (λ m y. y) (λ m y. inl y) (reads_touches k.config a b r.reads);
+  uses = uses_wider (Only k.config) Nothing (Among (k.config ∷ k.journal ∷ [])) Nothing (λ m y. inl y) (λ m y. y) (outcome_end x) a b r.uses;
   given = tt;
   within = tt;
-  ended = elim r.only [
-    | inl fault ↦ subst (GivenEnds k a b) (sym fault.1) (λ told. r.fault told fault.0 fault.1)
-    | inr other ↦ elim other [
-      | inl failed ↦ subst (GivenEnds k a b) (sym failed) (inl (r.cause (ap (λ (o : Outcome). let e : Result Settings Outcome = Err o in e) failed)))
-      | inr memory ↦ subst (GivenEnds k a b) (sym memory) tt
-    ]
-  ];
-  counts = r.counts;
-  writes = r.reads.writes;
+  ended = config_refused r (GivenEnds k a b) (λ f used is. is) (λ used. inl (rose_only k.config a.read_faults b.read_faults used.counts.0)) (λ used. tt);
 }
 
 module _ (k : RunNames) (a b d : Seen) (c : Settings) (config : ConfigRead k.config a b (Ok c)) where
   told_on : IsTrue a.told → IsTrue b.told
-  told_on = told_stays k.config a b config.reads.keeps
+  told_on = used_told config.uses
 
-  touch_both : Reads k.journal b d → Touches Nothing (Among (k.config ∷ k.journal ∷ [])) a d
-  touch_both reads = touches_trans Nothing (Among (k.config ∷ k.journal ∷ [])) a b d
-      (touches_wider Nothing (Only k.config) Nothing (Among (k.config ∷ k.journal ∷ [])) a b (λ m y. y) (λ m y. inl y) (reads_touches k.config a b config.reads))
-      (touches_wider Nothing (Only k.journal) Nothing (Among (k.config ∷ k.journal ∷ [])) b d (λ m y. y) (λ m y. inr (inl y)) (reads_touches k.journal b d reads))
+  same_file : (m : List ℕ) → b.file m ≡ a.file m
+  same_file = used_files config.uses
 
-  -- no fault of reading was counted before
-  both : SameReadFaults b d → SameReadFaults a d
-  both same m = same m ∙ config.counts m
-
-  writes_on : Reads k.journal b d → SameWriteFaults a d
-  writes_on reads m = reads.writes m ∙ config.reads.writes m
+  uses_both : (end : End) → Uses (Only k.journal) Nothing end b d → Uses (Among (k.config ∷ k.journal ∷ [])) Nothing end a d
+  uses_both end u = uses_then (Among (k.config ∷ k.journal ∷ [])) Nothing end a b d
+      (uses_wider (Only k.config) Nothing (Among (k.config ∷ k.journal ∷ [])) Nothing (λ m y. inl y) (λ m y. y) Said a b config.uses)
+      (uses_wider (Only k.journal) Nothing (Among (k.config ∷ k.journal ∷ [])) Nothing (λ m y. inr (inl y)) (λ m y. y) end b d u)
 
   pub given_whole : (v : Vec ℕ Global) → JournalRead k.journal MOST_BYTES b d (Ok v) → GivenRead k a d (Ok (c, v))
   given_whole v r = record {
-    touches = touch_both r.reads;
-    given = record {
-      touches = touch_both r.reads;
-      config = λ told. config.ok told;
-      lines = λ told. sym (config.reads.files k.journal) ∙ r.ok (told_on told);
-      counts = (both r.counts, writes_on r.reads);
-    };
+    uses = uses_both Said r.uses;
+    given = record { uses = uses_both Said r.uses; config = λ told. config.ok told; lines = λ told. sym (same_file k.journal) ∙ r.ok (told_on told) };
     within = r.within;
     ended = tt;
-    counts = both r.counts;
-    writes = writes_on r.reads;
   }
 
   pub given_unread : (x : Outcome) → JournalRead k.journal MOST_BYTES b d (Err x) → GivenRead k a d (Err x)
-  given_unread x r = record {
-    touches = touch_both r.reads;
-    given = tt;
-    within = tt;
-    ended = go x r.ended;
-    counts = spares_reads_then (outcome_end x) a b d config.counts r.counts;
-    writes = writes_on r.reads;
-  }
+  given_unread x r = record { uses = uses_both (outcome_end x) r.uses; given = tt; within = tt; ended = go x r.uses r.ended }
     where
-      go : (x : Outcome) → JournalEnds k.journal MOST_BYTES b d x → GivenEnds k a d x
-      go (ends.Limit kind) e = (e.0, λ told. let l = e.1 (told_on told) in (c, config.ok told, l.0, sym (config.reads.files k.journal) ∙ l.1, l.2))
-      go ends.ReadFault e = inr (rose_later _ _ _ ((reads_touches k.config a b config.reads).reads_rise k.journal) e, λ told. (c, config.ok told))
-      go ends.Memory e = tt
-      go x e = absurd e
+      go : (x : Outcome) → Uses (Only k.journal) Nothing (outcome_end x) b d → JournalEnds k.journal MOST_BYTES b x → GivenEnds k a d x
+      go (ends.Limit kind) used e = (e.0, λ told. let l = e.1 (told_on told) in (c, config.ok told, l.0, sym (same_file k.journal) ∙ l.1, l.2))
+      go ends.ReadFault used e = inr (rose_later _ _ _ (config.uses.touches.reads_rise k.journal) (rose_only k.journal b.read_faults d.read_faults used.counts.0), λ told. (c, config.ok told))
+      go ends.Memory used e = tt
+      go x used e = absurd e
 
 -- the names of a command by how many names a port has
 pub config_named : (w : Width) (words : List (String Global)) → (names_of w words).config ≡ name_at words 1

@@ -39,3 +39,4 @@ pub mod RecheckLemmas
 pub mod CauseLemmas
 pub mod EndLemmas
 pub mod TouchLemmas
+pub mod UseLemmas

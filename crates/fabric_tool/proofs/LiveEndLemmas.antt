@@ -1,5 +1,5 @@
 -- What follows from how `live` ended.
-use Rattle.std.proofs.Common.{◌≡◌, ℕ, List, [], ◌∷◌, length, ◌⊎◌, arith, inl, inr}
+use Rattle.std.proofs.Common.{ℕ, List, ◌∷◌, length, ◌⊎◌, arith, inl, inr}
 use Rattle.fab_base.specs.Seen.{Seen, SameFiles}
 use Rattle.fab_config.specs.Settings.{Settings}
 use Rattle.pcapng_file.specs.declared.NgRecord.{NgRecord}
@@ -9,7 +9,7 @@ use Rattle.pcap_file.specs.declared.fault.LimitKind.TheVariants as kinds
 use Rattle.fabric_tool.specs.Command.{LiveWords, by_port, Live}
 use Rattle.fabric_tool.specs.Ends.{TakesMemory, Holds}
 use Rattle.fabric_tool.specs.Inputs.{LIMITS}
-use Rattle.fabric_tool.specs.Living.{session_of, all_came, HasLived, HasHalted, HasLiveFront, IsBegun, IsFaulty, IsNoPort, IsPast, IsLiveRefused, live_end}
+use Rattle.fabric_tool.specs.Living.{session_of, all_came, HasLived, HasHalted, HasLiveFront, IsBegun, IsFaulty, IsNoPort, IsPast, IsLiveRefused, live_ending}
 use Rattle.fabric_tool.specs.declared.outcome.Outcome.{Outcome}
 use Rattle.fabric_tool.specs.declared.outcome.Outcome.TheVariants as ends
 use Rattle.fabric_tool.proofs.EndingLemmas.{Left}
@@ -72,7 +72,7 @@ module _ (k : LiveWords) (old new : Seen) where
   refused_front (inr (inl halted)) = inr (halted_front halted)
   refused_front (inr (inr front)) = inr front.0
 
-  pub live_front : (o : Outcome) → Left (live_end k old new o) → SameFiles old new ⊎ HasLiveFront k old new
+  pub live_front : (o : Outcome) → Left (live_ending k old new o) → SameFiles old new ⊎ HasLiveFront k old new
   live_front (ends.Ran frames entries) h = inr (halted_front (lived_begun frames entries h))
   live_front (ends.BadStream at why) h = inr (halted_front (stream_begun at why h))
   live_front (ends.NoPort face) h = inr (halted_front (port_begun face h))

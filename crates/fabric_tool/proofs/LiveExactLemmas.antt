@@ -1,13 +1,12 @@
 -- What comes first in a stream comes first: where nothing fails, `live` ends as its inputs say.
-use Rattle.std.proofs.Common.{◌≡◌, ℕ, zero, suc, ◌+◌, ◌-◌, ◌<◌, ◌≤◌, List, [], ◌∷◌, ◌++◌, ◌⊎◌, ◌&&◌, Bool, true, eqb, length, length-append, length-drop, drop, Option, Some, Ok, Err, IsTrue, refl, sym, ap, ◌∙◌, subst, arith, inl, inr}
-use Rattle.std.specs.Prelude.{Result, is_some}
+use Rattle.std.proofs.Common.{◌≡◌, ℕ, zero, suc, ◌+◌, ◌-◌, ◌<◌, ◌≤◌, List, [], ◌∷◌, ◌++◌, ◌⊎◌, ◌&&◌, true, eqb, length, length-append, length-drop, drop, Some, IsTrue, refl, sym, ap, ◌∙◌, subst, arith, inl, inr}
+use Rattle.std.specs.Prelude.{is_some}
 use Rattle.fab_base.specs.Seen.{Seen}
 use Rattle.fab_base.specs.Sunk.{Sunk}
 use Rattle.fab_config.specs.Settings.{Settings}
 use Rattle.fab_config.specs.declared.ConfigFault.{ConfigFault}
 use Rattle.pcap_file.proofs.lemmas.Numbers.{le_or_lt}
 use Rattle.pcapng_file.specs.declared.NgRecord.{NgRecord}
-use Rattle.pcapng_file.specs.declared.fault.NgWhy.{NgWhy}
 use Rattle.pcapng_file.specs.declared.fault.NgError.{NgError}
 use Rattle.pcapng_file.specs.declared.fault.NgError.TheVariants as errors
 use Rattle.pcapng_file.specs.declared.fault.NgLimit.TheVariants as ng_limits
@@ -23,7 +22,7 @@ use Rattle.fab_live.specs.Live.{BeginsWithin, Stops, left_behind}
 use Rattle.fabric_tool.specs.Command.{LiveWords, Live}
 use Rattle.fabric_tool.specs.Ends.{Holds}
 use Rattle.fabric_tool.specs.Inputs.{HasConfig, HasFault, LIMITS, MOST_BYTES, MOST_FRAMES}
-use Rattle.fabric_tool.specs.Living.{HasLived, HasHalt, IsFaulty, IsNoPort, IsPast, live_end, LiveEnded, LiveForms, LiveSays, live_meaning}
+use Rattle.fabric_tool.specs.Living.{HasLived, HasHalt, IsFaulty, IsNoPort, IsPast, live_ending, LiveEnded, LiveForms, LiveSays, live_meaning}
 use Rattle.fabric_tool.specs.Outcome.{status_of, line_of}
 use Rattle.fabric_tool.specs.declared.outcome.Outcome.{Outcome}
 use Rattle.fabric_tool.specs.declared.outcome.Outcome.TheVariants as ends
@@ -354,7 +353,7 @@ module _ (k : LiveWords) (d : Seen) where
 
   module _ (new : Seen) (told : IsTrue d.told) where
     -- an outcome is done, what the inputs name, or want of memory
-    ended : (o : Outcome) → Said d (live_end k d new o) → ((frames : ℕ) × (entries : ℕ) × HasLived k frames entries d new × (o ≡ ends.Ran frames entries)) ⊎ (Finds o ⊎ (o ≡ ends.Memory))
+    ended : (o : Outcome) → Said d (live_ending k d new o) → ((frames : ℕ) × (entries : ℕ) × HasLived k frames entries d new × (o ≡ ends.Ran frames entries)) ⊎ (Finds o ⊎ (o ≡ ends.Memory))
     ended (ends.Ran frames entries) h = inl (frames, entries, h told, refl)
     ended (ends.Config fault) h = inr (inl (inl (fault, h told, refl)))
     ended (ends.BadStream at why) h = inr (inl (by_stop (IsFaulty at why) (errors.Fault at why) (λ c v l w. w) (h told).halt))
@@ -372,14 +371,14 @@ module _ (k : LiveWords) (d : Seen) where
         reached_whole (length k.outs) h.settings h.stream.bytes p h.packets (found_as p h.settings h.stream.bytes f c l)
         (whole_of h.packets h.stream.bytes h.stream.is h.stream.within) (record { faces = h.session.run.faces; span = h.session.run.span })
 
-    pub live_once : (o p : Outcome) → Said d (live_end k d new o) → LiveSays k d p → PrintsAlike o p ⊎ (o ≡ ends.Memory)
+    pub live_once : (o p : Outcome) → Said d (live_ending k d new o) → LiveSays k d p → PrintsAlike o p ⊎ (o ≡ ends.Memory)
     live_once o p holds says = elim (ended o holds) [
       | inl lived ↦ absurd (lived_not p lived.0 lived.1 lived.2 (said p says))
       | inr other ↦ elim other [ inl finds ↦ inl (alike o p (found_once o p finds (said p says))) | inr memory ↦ inr memory ]
     ]
 
     -- inputs of the right form end with status 0
-    pub live_formed : LiveForms k d → (o : Outcome) → Said d (live_end k d new o) → (status_of o ≡ 0) ⊎ (o ≡ ends.Memory)
+    pub live_formed : LiveForms k d → (o : Outcome) → Said d (live_ending k d new o) → (status_of o ≡ 0) ⊎ (o ≡ ends.Memory)
     live_formed forms o holds = elim (ended o holds) [
       | inl lived ↦ inl (ap status_of lived.3)
       | inr other ↦ elim other [

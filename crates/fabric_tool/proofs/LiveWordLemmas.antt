@@ -1,5 +1,5 @@
 -- The names of `live`, and its outputs as they are opened: two for each port, one port after the other.
-use Rattle.std.proofs.Common.{◌≡◌, ◌≢◌, ℕ, zero, suc, ◌+◌, ◌-◌, ◌*◌, ◌/◌, ◌%◌, ◌<◌, ◌≤◌, ◌⊎◌, List, [], ◌∷◌, ◌++◌, length, true, ◌&&◌, Ok, Err, refl, sym, ap, ◌∙◌, subst, arith, inl, inr}
+use Rattle.std.proofs.Common.{◌≡◌, ℕ, suc, ◌+◌, ◌-◌, ◌*◌, ◌/◌, ◌%◌, ◌<◌, ◌≤◌, ◌⊎◌, List, [], ◌∷◌, ◌++◌, length, true, ◌&&◌, Ok, Err, refl, sym, ap, ◌∙◌, subst, arith, inl, inr}
 use Rattle.std.specs.Prelude.{String, map, nat_le, ◌==◌, codes}
 use Rattle.std.specs.Str.{bytes_eq}
 use Rattle.std.proofs.lemmas.Bool.{leb-true, eqb-true}
@@ -180,7 +180,7 @@ pub live_no_journal : (words : List (String Global)) (a d : Seen) (e : Failed) �
 live_no_journal words a d e o =
     let k = live_of words in
     let f = opened_failed [] a a [] (opened_none a) (name_at words 2) d (k.journal ∷ by_port k.ins k.outs) (by_port k.ins k.outs) refl e o in
-    record { opens = f.0; width = tt; slots = tt; cause = f.1; counts = tt }
+    record { opens = f.0; slots = tt; cause = f.1; counts = tt }
 
 module _ (words : List (String Global)) (live : is_live words ≡ true) (p : ℕ) (lt : p < live_count words) (a b : Seen) (journal : ℕ) (ins outs : List ℕ) (h : PortsOpened words p a b journal ins outs) where
   abbrev behind : List (List ℕ)
@@ -189,7 +189,7 @@ module _ (words : List (String Global)) (live : is_live words ≡ true) (p : ℕ
   pub came_failed : (d : Seen) (e : Failed) → OpensOut {E = Failed} (came_at words p) b d (Err e) → RecordedOpened (live_of words) a d (Err e)
   came_failed d e o =
       let f = opened_failed (live_names words p) a b (journal ∷ by_port ins outs) h.opened (came_at words p) d (live_names words (live_count words)) (sent_at words p ∷ behind) (names_at_port words (live_count words) p lt) e o in
-      record { opens = f.0; width = tt; slots = tt; cause = f.1; counts = tt }
+      record { opens = f.0; slots = tt; cause = f.1; counts = tt }
 
   module _ (c : Seen) (s : ℕ) (came : OpensOut {E = Failed} (came_at words p) b c (Ok s)) where
     came_open : OpenedSoFar (live_names words p ++ came_at words p ∷ []) a c ((journal ∷ by_port ins outs) ++ s ∷ [])
@@ -199,7 +199,7 @@ module _ (words : List (String Global)) (live : is_live words ≡ true) (p : ℕ
     sent_failed d e o =
         let all = names_at_port words (live_count words) p lt ∙ sym (two_more (live_names words p) (came_at words p) (sent_at words p) behind) in
         let f = opened_failed (live_names words p ++ came_at words p ∷ []) a c ((journal ∷ by_port ins outs) ++ s ∷ []) came_open (sent_at words p) d (live_names words (live_count words)) behind all e o in
-        record { opens = f.0; width = tt; slots = tt; cause = f.1; counts = tt }
+        record { opens = f.0; slots = tt; cause = f.1; counts = tt }
 
     pub both_opened : (d : Seen) (t : ℕ) → OpensOut {E = Failed} (sent_at words p) c d (Ok t) → PortsOpened words (p + 1) a d journal (ins ++ s ∷ []) (outs ++ t ∷ [])
     both_opened d t o =

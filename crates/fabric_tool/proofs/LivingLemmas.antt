@@ -1,12 +1,12 @@
 -- How `live` ends.
-use Rattle.std.proofs.Common.{◌≡◌, ℕ, zero, suc, ◌+◌, ◌-◌, ◌<◌, ◌≤◌, ◌^◌, ◌*◌, List, [], ◌∷◌, ◌++◌, ◌⊎◌, Bool, true, false, length, Some, Ok, Err, IsTrue, refl, sym, ap, ◌∙◌, subst, arith, inl, inr}
+use Rattle.std.proofs.Common.{◌≡◌, ℕ, zero, suc, ◌+◌, ◌<◌, ◌≤◌, ◌^◌, ◌*◌, List, [], ◌∷◌, ◌⊎◌, Bool, true, false, length, Some, Ok, Err, IsTrue, refl, sym, ap, ◌∙◌, subst, arith, inl, inr}
 use Rattle.std.specs.Prelude.{Result, String, map, get_or, max, ◌==◌, if◌then◌else◌}
 use Rattle.std.specs.declared.alloc.Global.{Global}
-use Rattle.fab_base.specs.Ending.{NoFaults, IsPrefixOf}
+use Rattle.fab_base.specs.Ending.{End, Said, Read, Memory, NoFaults, IsPrefixOf, Uses}
 use Rattle.fab_base.specs.Places.{name_at}
-use Rattle.fab_base.specs.Seen.{Seen, SameFiles, Reads, Touches, OpensIn, Rose}
+use Rattle.fab_base.specs.Seen.{Seen, SameFiles, Touches, Nothing, Only, OpensIn, Rose}
 use Rattle.fab_base.specs.declared.values.Failed.{Failed}
-use Rattle.fab_base.proofs.SeenLemmas.{reads_touches, rose_later}
+use Rattle.fab_base.proofs.SeenLemmas.{rose_later}
 use Rattle.fab_config.specs.Settings.{Settings, is_in_range}
 use Rattle.pcap_file.specs.declared.Record.{Record}
 use Rattle.pcap_file.specs.declared.Budget.{Budget}
@@ -34,15 +34,16 @@ use Rattle.fab_live.specs.declared.fault.LiveFault.TheVariants as fault
 use Rattle.fab_replay.proofs.OneLemmas.{same_frames}
 use Rattle.run_files.specs.Names.{Among}
 use Rattle.run_files.specs.Opening.{AreEmptyOutputs}
-use Rattle.fab_base.proofs.EndingLemmas.{none_then}
+use Rattle.fab_base.proofs.EndingLemmas.{none_then, uses_refused, uses_then, uses_wider, rose_only, opens_in_uses}
 use Rattle.run_files.proofs.NameLemmas.{rose_among, rose_since, length-counted, counted_among}
 use Rattle.run_files.proofs.OpenLemmas.{there, slots_count, are_outputs, up_to_rose}
 use Rattle.fabric_tool.specs.Command.{LiveWords, Live, AllKnown, is_live, live_of, live_count, came_at, sent_at, by_port}
 use Rattle.fabric_tool.specs.Inputs.{HasConfig, AreCaptures, LIMITS}
 use Rattle.fabric_tool.specs.Left.{AreUnwritten, LegalIsSafe}
 use Rattle.fabric_tool.specs.Living.{came_on, HoldsSession, HoldsSessionFronts, HasSession, HasLived, HasHalt, HasHalted, HasLiveFront, IsBegun, IsFaulty, IsNoPort, IsPast, IsLiveRefused}
+use Rattle.fabric_tool.specs.Ending.{CountsOf}
 use Rattle.fabric_tool.specs.Ends.{Holds, KeepsOthers}
-use Rattle.fabric_tool.specs.Opening.{RecordedOpened, lived_by}
+use Rattle.fabric_tool.specs.Opening.{RecordedOpened, HasWidth, lived_by}
 use Rattle.fabric_tool.specs.Preparing.{IsNew, IsLivePrepared}
 use Rattle.fabric_tool.specs.Reading.{ConfigRead}
 use Rattle.fabric_tool.specs.declared.live.Recorded.{Recorded}
@@ -51,7 +52,8 @@ use Rattle.fabric_tool.specs.declared.outcome.Outcome.TheVariants as ends
 use Rattle.fabric_tool.proofs.AmongLemmas.{none_among}
 use Rattle.fabric_tool.proofs.LiveWordLemmas.{both, outputs_split, among_came, among_sent, live_names, came_once, sent_once, came_sent, came_first, sent_first, stream_apart}
 use Rattle.fabric_tool.proofs.PartLemmas.{empty_fronts, unwritten}
-use Rattle.fabric_tool.proofs.ReadLemmas.{spares_by}
+use Rattle.fabric_tool.proofs.ReadLemmas.{config_refused}
+use Rattle.fabric_tool.proofs.UseLemmas.{used_files, used_told, used_counts}
 use Rattle.fabric_tool.proofs.RanLemmas.{AreNamed, named_still, named_at, in_order_as, held, held_fronts}
 
 -- ---- what came is read back
@@ -131,30 +133,31 @@ nothing_lived nothing c n = record {
 others_same : (k : LiveWords) (old new : Seen) → SameFiles old new → KeepsOthers (Live k) old new
 others_same k old new same m none = same m
 
+-- what reading the configuration and the stream counts
+counted : (k : LiveWords) {end : End} {old new : Seen} → Uses (Among (k.config ∷ k.stream ∷ [])) Nothing end old new → CountsOf (k.config ∷ k.stream ∷ []) (k.journal ∷ by_port k.ins k.outs) end old new
+counted k used = used_counts used (k.config ∷ k.stream ∷ []) (k.journal ∷ by_port k.ins k.outs) (λ m x. x)
+
+config_alone : (k : LiveWords) (end : End) (old new : Seen) → Uses (Only k.config) Nothing end old new → Uses (Among (k.config ∷ k.stream ∷ [])) Nothing end old new
+config_alone k = uses_wider (Only k.config) Nothing (Among (k.config ∷ k.stream ∷ [])) Nothing (λ m x. inl x) (λ m x. x)
+
 -- the configuration can't be taken
 config_ended : (k : LiveWords) (old new : Seen) (x : Outcome) → ConfigRead k.config old new (Err x) → Holds (Live k) old new x
-config_ended k old new x read = elim read.only [
-  | inl fault ↦ subst (Holds (Live k) old new) (sym fault.1) (read.reads.files, λ told. read.fault told fault.0 fault.1, (spares_by old new fault.1 read.counts, read.reads.writes))
-  | inr other ↦ elim other [
-    | inl failed ↦
-        let rose = read.cause (ap (λ (o : Outcome). let r : Result Settings Outcome = Err o in r) failed) in
-        subst (Holds (Live k) old new) (sym failed) (others_same k old new read.reads.files, λ told. inl (read.reads.files, rose), (inl rose, read.reads.writes))
-    | inr memory ↦ subst (Holds (Live k) old new) (sym memory) (others_same k old new read.reads.files, λ told. inl read.reads.files, (spares_by old new memory read.counts, read.reads.writes))
-  ]
-]
+config_ended k old new x read = config_refused read (Holds (Live k) old new)
+    (λ f used says. (used_files used, says, counted k (config_alone k Said old new used)))
+    (λ used. (others_same k old new (used_files used), λ told. inl (used_files used, rose_only k.config old.read_faults new.read_faults used.counts.0), counted k (config_alone k Read old new used)))
+    (λ used. (others_same k old new (used_files used), λ told. inl (used_files used), counted k (config_alone k Memory old new used)))
 
 pub live_no_config : (k : LiveWords) {old new : Seen} {x : Outcome} → ConfigRead k.config old new (Err x) → IsLivePrepared k old new (Err x)
-live_no_config k {old} {new} {x} read = record { reads = read.reads; fabric = tt; config = λ told. tt; ended = config_ended k old new x read; counts = tt }
+live_no_config k {old} {new} {x} read = record { uses = read.uses; fabric = tt; config = λ told. tt; ended = config_ended k old new x read }
 
 module _ (k : LiveWords) {c : Settings} {old b : Seen} (config : ConfigRead k.config old b (Ok c)) where
-  quiet : NoFaults old b
-  quiet = (config.counts, config.reads.writes)
-
   pub live_no_fabric : IsLivePrepared k old b (Err ends.Memory)
-  live_no_fabric = record { reads = config.reads; fabric = tt; config = λ told. tt; ended = (others_same k old b config.reads.files, λ told. inl config.reads.files, quiet); counts = tt }
+  live_no_fabric =
+      let same = used_files config.uses in
+      record { uses = uses_refused (Only k.config) Nothing old b config.uses; fabric = tt; config = λ told. tt; ended = (others_same k old b same, λ told. inl same, config.uses.counts) }
 
   pub live_fabric : (F : Contents) → F.settings ≡ c → IsNew F k.outs → IsLivePrepared k old b (Ok F)
-  live_fabric F is made = record { reads = config.reads; fabric = made; config = λ told. subst (λ (s : Settings). HasConfig old k.config s) (sym is) (config.ok told); ended = tt; counts = quiet }
+  live_fabric F is made = record { uses = config.uses; fabric = made; config = λ told. subst (λ (s : Settings). HasConfig old k.config s) (sym is) (config.ok told); ended = tt }
 
 -- a fabric that was made of it
 pub new_live : (words : List (String Global)) (F : Contents) (c : Settings) → F.settings ≡ c → IsTrue (is_in_range c) → F.count ≡ live_count words → F.state ≡ state_of c [] → (F.events ≡ []) × (F.outs ≡ []) → IsNew F (live_of words).outs
@@ -313,32 +316,39 @@ le_trans : {x y z : ℕ} → x ≤ y → y ≤ z → x ≤ z
 le_trans {x} {y} {z} h k = omega arith
 
 module _ (words : List (String Global)) (live : is_live words ≡ true) (safe : LegalIsSafe) (back : ReadsBack) (nothing : NothingIsRun) (c : Settings) (range : IsTrue (is_in_range c)) (old m s a : Seen)
-    (config : IsTrue old.told → HasConfig old (live_of words).config c) (reads : Reads (live_of words).config old m) (quiet : NoFaults old m) where
+    (config : IsTrue old.told → HasConfig old (live_of words).config c) (read : Uses (Only (live_of words).config) Nothing Said old m) where
   abbrev kk : LiveWords
   kk = live_of words
 
   told_m : IsTrue old.told → IsTrue m.told
-  told_m told = subst IsTrue (sym reads.keeps.told) told
+  told_m = used_told read
+
+  with_stream : (end : End) → Uses (Only kk.stream) Nothing end m s → Uses (Among (kk.config ∷ kk.stream ∷ [])) Nothing end old s
+  with_stream end stream = uses_then (Among (kk.config ∷ kk.stream ∷ [])) Nothing end old m s (config_alone kk Said old m read) (uses_wider (Only kk.stream) Nothing (Among (kk.config ∷ kk.stream ∷ [])) Nothing (λ n x. inr (inl x)) (λ n x. x) end m s stream)
 
   -- the stream can't be opened
   pub stream_closed : (e : Failed) → OpensIn {E = Failed} kk.stream m s (Err e) → Holds (Live kk) old s ends.ReadFault
   stream_closed e o =
-      let same : SameFiles old s = λ name. o.reads.files name ∙ reads.files name in
-      let rose : Rose (old.read_faults kk.stream) (s.read_faults kk.stream) = rose_later (old.read_faults kk.stream) (m.read_faults kk.stream) (s.read_faults kk.stream) ((reads_touches kk.config old m reads).reads_rise kk.stream) o.cause in
-      (others_same kk old s same, λ told. inr (inl (same, rose, (c, config told))), (inr (inl rose), λ name. o.reads.writes name ∙ reads.writes name))
+      let used = with_stream Read (opens_in_uses m s kk.stream (Err e) o) in
+      let same : SameFiles old s = used_files used in
+      let rose : Rose (old.read_faults kk.stream) (s.read_faults kk.stream) = rose_later (old.read_faults kk.stream) (m.read_faults kk.stream) (s.read_faults kk.stream) (read.touches.reads_rise kk.stream) o.cause in
+      (others_same kk old s same, λ told. inr (inl (same, rose, (c, config told))), counted kk used)
 
   module _ (stream : ℕ) (o : OpensIn {E = Failed} kk.stream m s (Ok stream)) where
+    used_s : Uses (Among (kk.config ∷ kk.stream ∷ [])) Nothing Said old s
+    used_s = with_stream Said (opens_in_uses m s kk.stream (Ok stream) o)
+
     quiet_s : NoFaults old s
-    quiet_s = none_then old m s quiet (o.counts, o.reads.writes)
+    quiet_s = used_s.counts
 
     same_s : SameFiles old s
-    same_s name = o.reads.files name ∙ reads.files name
+    same_s = used_files used_s
 
     told_s : IsTrue old.told → IsTrue s.told
-    told_s told = subst IsTrue (sym o.reads.keeps.told) (told_m told)
+    told_s = used_told used_s
 
     stream_file : IsTrue old.told → old.file kk.stream ≡ Some (s.left stream)
-    stream_file told = sym (reads.files kk.stream) ∙ o.left (told_m told)
+    stream_file told = sym (used_files read kk.stream) ∙ o.left (told_m told)
 
     -- what the stream and nothing of it say
     begun : (bytes : List ℕ) → IsTrue old.told → old.file kk.stream ≡ Some bytes → HasHalt kk IsBegun old
@@ -367,13 +377,13 @@ module _ (words : List (String Global)) (live : is_live words ≡ true) (safe : 
             files = empty_session (λ name. elim (r.opens.each (told_s told) name) [ inl same ↦ inl (same ∙ same_s name) | inr empty ↦ inr empty ]) (unwritten all old s a same_s (told_s told) r.cause);
           },
           (
-            rose_since old.write_faults s.write_faults a.write_faults (λ name. le_trans ((reads_touches kk.config old m reads).writes_rise name) ((reads_touches kk.stream m s o.reads).writes_rise name)) all (up_to_rose all s a r.cause),
+            rose_since old.write_faults s.write_faults a.write_faults used_s.touches.writes_rise all (up_to_rose all s a r.cause),
             λ name. r.opens.reads name ∙ quiet_s.0 name,
           ),
         )
 
     -- the outputs are open
-    module _ (files : Recorded) (r : RecordedOpened kk s a (Ok files)) where
+    module _ (files : Recorded) (r : RecordedOpened kk s a (Ok files)) (width : HasWidth kk files) where
       abbrev fs : LiveSlots
       fs = record { journal = files.journal; ins = files.ins.items; outs = files.outs.items }
 
@@ -390,7 +400,7 @@ module _ (words : List (String Global)) (live : is_live words ≡ true) (safe : 
           }
 
       pub given_live : AreGiven a stream fs
-      given_live = live_given words live a files.journal files.ins.items files.outs.items r.slots r.width.0 r.width.1 stream stream_open.input stream_open.name_
+      given_live = live_given words live a files.journal files.ins.items files.outs.items r.slots width.0 width.1 stream stream_open.input stream_open.name_
 
       told_a : IsTrue old.told → IsTrue a.told
       told_a told = subst IsTrue (sym r.opens.touches.told) (told_s told)
@@ -399,23 +409,23 @@ module _ (words : List (String Global)) (live : is_live words ≡ true) (safe : 
       quiet_a = none_then old s a quiet_s (r.opens.reads, r.counts)
 
       rise_reads : (name : List ℕ) → old.read_faults name ≤ a.read_faults name
-      rise_reads name = le_trans ((reads_touches kk.config old m reads).reads_rise name) (le_trans ((reads_touches kk.stream m s o.reads).reads_rise name) (r.opens.touches.reads_rise name))
+      rise_reads name = le_trans (used_s.touches.reads_rise name) (r.opens.touches.reads_rise name)
 
       rise_writes : (name : List ℕ) → old.write_faults name ≤ a.write_faults name
-      rise_writes name = le_trans ((reads_touches kk.config old m reads).writes_rise name) (le_trans ((reads_touches kk.stream m s o.reads).writes_rise name) (r.opens.touches.writes_rise name))
+      rise_writes name = le_trans (used_s.touches.writes_rise name) (r.opens.touches.writes_rise name)
 
       -- what it did
       module _ (b : Seen) (touches : Touches (LiveNames a fs) (λ name. LiveNames a fs name ⊎ (name ≡ a.name stream)) a b) where
         others : KeepsOthers (Live kk) old b
         others name none =
             let apart = none_among (kk.journal ∷ by_port kk.ins kk.outs) name none in
-            touches.files name (λ w. apart (written_among words live a files.journal files.ins.items files.outs.items r.slots r.width.0 r.width.1 name w)) ∙ r.opens.touches.files name apart ∙ same_s name
+            touches.files name (λ w. apart (written_among words live a files.journal files.ins.items files.outs.items r.slots width.0 width.1 name w)) ∙ r.opens.touches.files name apart ∙ same_s name
 
         session : (packets : List NgRecord) (left : LeftWhole c b fs packets) → IsTrue b.told → HasSession kk c packets b
         session packets left told =
-            let all = holds_all words live a files.journal files.ins.items files.outs.items r.slots r.width.0 r.width.1 b c old touches packets left.entry_list (left.hold told) in
-            let run = subst (λ (n : ℕ). IsLiveRun c n packets left.entry_list) r.width.1 left.run in
-            let lists = subst (λ (n : ℕ). AreCaptures b kk.ins (map (port_records (arrived 0 packets)) (counting 0 n))) (same_width words live a files.journal files.ins.items files.outs.items r.slots r.width.0 r.width.1)
+            let all = holds_all words live a files.journal files.ins.items files.outs.items r.slots width.0 width.1 b c old touches packets left.entry_list (left.hold told) in
+            let run = subst (λ (n : ℕ). IsLiveRun c n packets left.entry_list) width.1 left.run in
+            let lists = subst (λ (n : ℕ). AreCaptures b kk.ins (map (port_records (arrived 0 packets)) (counting 0 n))) (same_width words live a files.journal files.ins.items files.outs.items r.slots width.0 width.1)
             (all_back back packets run.kept b kk.ins 0 all.came) in
             record {
               journal = left.entry_list;
@@ -434,7 +444,7 @@ module _ (words : List (String Global)) (live : is_live words ≡ true) (safe : 
         -- behind these packets it couldn't go on
         halted : (Why : Settings → List NgRecord → List ℕ → Type 0) (told : IsTrue old.told) (packets : List NgRecord) → Why c packets (a.left stream) → LeftWhole c b fs packets → HasHalted kk Why old b
         halted Why told packets why left =
-            let run = subst (λ (n : ℕ). IsLiveRun c n packets left.entry_list) r.width.1 left.run in
+            let run = subst (λ (n : ℕ). IsLiveRun c n packets left.entry_list) width.1 left.run in
             record {
               halt = record { settings = c; config = config told; bytes = a.left stream; stream = stream_open.bytes told; packets = packets; faces = run.faces; span = run.span; why = why };
               session = session packets left (told_b told);
@@ -442,12 +452,12 @@ module _ (words : List (String Global)) (live : is_live words ≡ true) (safe : 
 
         front : (told : IsTrue old.told) (packets : List NgRecord) → Begins packets (a.left stream) → LeftBroken c b fs packets → HasLiveFront kk old b
         front told packets why left =
-            let run = subst (λ (n : ℕ). IsLiveRun c n packets left.entry_list) r.width.1 left.run in
+            let run = subst (λ (n : ℕ). IsLiveRun c n packets left.entry_list) width.1 left.run in
             record {
               halt = record { settings = c; config = config told; bytes = a.left stream; stream = stream_open.bytes told; packets = packets; faces = run.faces; span = run.span; why = why };
               journal = left.entry_list;
               run = run;
-              files = holds_fronts words live a files.journal files.ins.items files.outs.items r.slots r.width.0 r.width.1 b c old touches packets left.entry_list (left.hold (told_b told));
+              files = holds_fronts words live a files.journal files.ins.items files.outs.items r.slots width.0 width.1 b c old touches packets left.entry_list (left.hold (told_b told));
             }
 
         finished : (done : Done) (told : IsTrue old.told) → LiveFinished c LIMITS fs (a.left stream) b done → HasLived kk done.frames done.entries old b
@@ -474,7 +484,7 @@ module _ (words : List (String Global)) (live : is_live words ≡ true) (safe : 
           (others b x.touches, λ told. let e = x.ends (told_a told) in halted b x.touches (IsFaulty at why) told e.0 e.1 e.2, none_then old a b quiet_a x.counts)
       live_ended b (Err (fault.Port face)) x = (
         others b x.touches,
-        λ told. let e = x.ends (told_a told) in halted b x.touches (IsNoPort kk face) told e.0 (e.1, e.2, e.3, e.4, let le = e.5 in omega (arith, le, r.width.1)) e.6,
+        λ told. let e = x.ends (told_a told) in halted b x.touches (IsNoPort kk face) told e.0 (e.1, e.2, e.3, e.4, let le = e.5 in omega (arith, le, width.1)) e.6,
         none_then old a b quiet_a x.counts,
       )
       live_ended b (Err (fault.Limit kinds.Bytes)) x =
@@ -483,7 +493,7 @@ module _ (words : List (String Global)) (live : is_live words ≡ true) (safe : 
           (others b x.touches, λ told. let e = x.ends (told_a told) in halted b x.touches (IsPast kk kinds.Frames) told e.0 e.1 e.2, none_then old a b quiet_a x.counts)
       live_ended b (Err (fault.Limit kinds.Span)) x = (
         others b x.touches,
-        λ told. let e = x.ends (told_a told) in halted b x.touches (IsPast kk kinds.Span) told e.0 (e.1, e.2, e.3, (let lt = e.4 in omega (arith, lt, r.width.1)), e.5) e.6,
+        λ told. let e = x.ends (told_a told) in halted b x.touches (IsPast kk kinds.Span) told e.0 (e.1, e.2, e.3, (let lt = e.4 in omega (arith, lt, width.1)), e.5) e.6,
         none_then old a b quiet_a x.counts,
       )
       live_ended b (Err fault.Read) x =
@@ -497,7 +507,7 @@ module _ (words : List (String Global)) (live : is_live words ≡ true) (safe : 
       live_ended b (Err fault.Write) x =
           let rose = x.counts.0 in
           let all = kk.journal ∷ by_port kk.ins kk.outs in
-          let among = written_among words live a files.journal files.ins.items files.outs.items r.slots r.width.0 r.width.1 rose.0 rose.1 in (
+          let among = written_among words live a files.journal files.ins.items files.outs.items r.slots width.0 width.1 rose.0 rose.1 in (
             others b x.touches,
             λ told. let e = x.ends (told_a told) in front b x.touches told e.0 e.1 e.2,
             (rose_since old.write_faults a.write_faults b.write_faults rise_writes all (rose_among a.write_faults b.write_faults all rose.0 among rose.2), λ name. x.counts.1 name ∙ quiet_a.0 name),

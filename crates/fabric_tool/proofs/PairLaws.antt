@@ -23,7 +23,7 @@ use Rattle.fabric_tool.specs.Command.{PairNames, Convert, Migrate}
 use Rattle.fabric_tool.specs.Ends.{TakesMemory, Holds}
 use Rattle.fabric_tool.specs.Inputs.{HasCapture, LIMITS, MOST_BYTES}
 use Rattle.fabric_tool.specs.Outcome.{status_of, line_of}
-use Rattle.fabric_tool.specs.Pairs.{convert_end, ConvertEnded, ended_by, convert_meaning, migrate_end, MigrateEnded, MigrateSays, migrate_meaning}
+use Rattle.fabric_tool.specs.Pairs.{convert_ending, ConvertEnded, ended_by, convert_meaning, migrate_ending, MigrateEnded, MigrateSays, migrate_meaning}
 use Rattle.fabric_tool.specs.declared.outcome.Outcome.{Outcome}
 use Rattle.fabric_tool.specs.declared.outcome.Outcome.TheVariants as ends
 use Rattle.fabric_tool.proofs.EndingLemmas.{Left, Said, IsAnswer, less}
@@ -35,13 +35,13 @@ use Rattle.fabric_tool.proofs.Laws.{Laws, alike}
 whole_front : (k : PairNames) (old new : Seen) (records : ℕ) → Converted k.from k.to LIMITS old new records → IsFront k.from k.to LIMITS old new
 whole_front k old new records c = Front c.bytes c.packets (length (classic_bytes c.packets)) c.found c.is c.within (c.output ∙ ap (λ (l : List ℕ). Some l) (sym (take_all (length (classic_bytes c.packets)) (classic_bytes c.packets) (omega arith))))
 
-converted : (k : PairNames) (old new : Seen) (o : Outcome) → Left (convert_end k old new o) → IsFront k.from k.to LIMITS old new
+converted : (k : PairNames) (old new : Seen) (o : Outcome) → Left (convert_ending k old new o) → IsFront k.from k.to LIMITS old new
 converted k old new (ends.Converted records) h = whole_front k old new records h
 converted k old new ends.WriteFault h = h
 converted k old new ends.Memory h = h
 converted k old new o h = absurd h
 
-convert_answered : (k : PairNames) (old new : Seen) (o : Outcome) → Holds (Convert k) old new o → TakesMemory o → IsAnswer (convert_end k old new o)
+convert_answered : (k : PairNames) (old new : Seen) (o : Outcome) → Holds (Convert k) old new o → TakesMemory o → IsAnswer (convert_ending k old new o)
 convert_answered k old new (ends.Converted records) h takes = tt
 convert_answered k old new (ends.BadBlock at fault) h takes = tt
 convert_answered k old new (ends.Limit kind) h takes = tt
@@ -63,13 +63,13 @@ done_convert k old new before after (ends.Converted records) is h printed = λ t
 done_convert k old new before after o is h printed = absurd (omega arith)
 
 -- how `convert` ends by the bytes that it finds
-convert_found : (k : PairNames) (old new : Seen) (l : List ℕ) → IsTrue old.told → old.file k.from ≡ Some l → (o : Outcome) → Said old (convert_end k old new o) → (o ≡ ended_by (ng_read LIMITS l)) ⊎ (o ≡ ends.Memory)
+convert_found : (k : PairNames) (old new : Seen) (l : List ℕ) → IsTrue old.told → old.file k.from ≡ Some l → (o : Outcome) → Said old (convert_ending k old new o) → (o ≡ ended_by (ng_read LIMITS l)) ⊎ (o ≡ ends.Memory)
 convert_found k old new l told found = go
   where
     read_there : (m : List ℕ) → old.file k.from ≡ Some m → (r : Result (List NgRecord) NgError) → ng_read LIMITS m ≡ r → ng_read LIMITS l ≡ r
     read_there m other r is = let same : Some l ≡ Some m = sym found ∙ other in let e : l ≡ m = cc in ap (ng_read LIMITS) e ∙ is
 
-    go : (o : Outcome) → Said old (convert_end k old new o) → (o ≡ ended_by (ng_read LIMITS l)) ⊎ (o ≡ ends.Memory)
+    go : (o : Outcome) → Said old (convert_ending k old new o) → (o ≡ ended_by (ng_read LIMITS l)) ⊎ (o ≡ ends.Memory)
     go (ends.Converted records) h = let c = h told in inl (ap (λ (n : ℕ). ends.Converted n) c.counted ∙ sym (ap ended_by (read_there c.bytes c.found (Ok c.packets) c.read)))
     go (ends.BadBlock at fault) h = let s = h told in inl (sym (ap ended_by (read_there s.0 s.1 (Err (ng.Fault at fault)) s.2)))
     go (ends.Limit kind) h = let l' = h told in let s = l'.2 in inl (ap (λ (x : LimitKind). ends.Limit x) l'.1 ∙ sym (ap ended_by (read_there s.0 s.1 (Err (ng.Limit l'.0)) s.2)))
@@ -80,7 +80,7 @@ pub convert_laws : (k : PairNames) → Laws (convert_meaning k)
 convert_laws k = record {
   same = λ old new files. Same (files k.to);
   whole = converted k;
-  spare = λ old new o h takes. less (convert_meaning k) old new (IsFront k.from k.to LIMITS old new) (λ files. Same (files k.to)) (convert_end k old new o) (convert_answered k old new o h takes) (converted k old new o) h;
+  spare = λ old new o h takes. less (convert_meaning k) old new (IsFront k.from k.to LIMITS old new) (λ files. Same (files k.to)) (convert_ending k old new o) (convert_answered k old new o h takes) (converted k old new o) h;
   done = done_convert k;
   once = λ old new o p told h says. elim (convert_found k old new says.0 told says.1 o h) [ inl is ↦ inl (alike o p (is ∙ sym says.2)) | inr memory ↦ inr memory ];
   formed = λ old new o forms h. elim (convert_found k old new forms.input.bytes forms.told forms.input.file o h) [
@@ -95,13 +95,13 @@ convert_laws k = record {
 whole_journal : (k : PairNames) (old new : Seen) (entries : ℕ) → Migrated k.from k.to MOST_BYTES old new entries → IsNewFront k.from k.to MOST_BYTES old new
 whole_journal k old new entries m = Begun m.bytes m.lines (length (new_text m.lines)) m.found m.within m.is (m.output ∙ ap (λ (l : List ℕ). Some l) (sym (take_all (length (new_text m.lines)) (new_text m.lines) (omega arith))))
 
-migrated : (k : PairNames) (old new : Seen) (o : Outcome) → Left (migrate_end k old new o) → IsNewFront k.from k.to MOST_BYTES old new
+migrated : (k : PairNames) (old new : Seen) (o : Outcome) → Left (migrate_ending k old new o) → IsNewFront k.from k.to MOST_BYTES old new
 migrated k old new (ends.Migrated entries) h = whole_journal k old new entries h
 migrated k old new ends.WriteFault h = h
 migrated k old new ends.Memory h = h
 migrated k old new o h = absurd h
 
-migrate_answered : (k : PairNames) (old new : Seen) (o : Outcome) → Holds (Migrate k) old new o → TakesMemory o → IsAnswer (migrate_end k old new o)
+migrate_answered : (k : PairNames) (old new : Seen) (o : Outcome) → Holds (Migrate k) old new o → TakesMemory o → IsAnswer (migrate_ending k old new o)
 migrate_answered k old new (ends.Migrated entries) h takes = tt
 migrate_answered k old new (ends.BadLine line fault) h takes = tt
 migrate_answered k old new (ends.Limit kind) h takes = tt
@@ -131,13 +131,13 @@ one_end bytes (ends.Limit kind) p a b = absurd b
 one_end bytes o p a b = absurd a
 
 -- how `migrate` ends by the bytes that it finds
-migrate_found : (k : PairNames) (old new : Seen) (l : List ℕ) → IsTrue old.told → old.file k.from ≡ Some l → (o : Outcome) → Said old (migrate_end k old new o) → MigrateSays l o ⊎ (o ≡ ends.Memory)
+migrate_found : (k : PairNames) (old new : Seen) (l : List ℕ) → IsTrue old.told → old.file k.from ≡ Some l → (o : Outcome) → Said old (migrate_ending k old new o) → MigrateSays l o ⊎ (o ≡ ends.Memory)
 migrate_found k old new l told found = go
   where
     there : (m : List ℕ) → old.file k.from ≡ Some m → m ≡ l
     there m other = let same : Some m ≡ Some l = sym other ∙ found in cc
 
-    go : (o : Outcome) → Said old (migrate_end k old new o) → MigrateSays l o ⊎ (o ≡ ends.Memory)
+    go : (o : Outcome) → Said old (migrate_ending k old new o) → MigrateSays l o ⊎ (o ≡ ends.Memory)
     go (ends.Migrated entries) h = let m = h told in inl (subst (λ x. MigrateSays x (ends.Migrated entries)) (there m.bytes m.found) (m.within, m.lines, m.is, m.counted))
     go (ends.BadLine line fault) h = let s = h told in inl (subst (λ x. MigrateSays x (ends.BadLine line fault)) (there s.0 s.1) (s.2, s.3))
     go (ends.Limit kind) h = let s = h.1 told in inl (subst (λ x. MigrateSays x (ends.Limit kind)) (there s.0 s.1) (s.2, h.0))
@@ -148,7 +148,7 @@ pub migrate_laws : (k : PairNames) → Laws (migrate_meaning k)
 migrate_laws k = record {
   same = λ old new files. Untouched (files k.to);
   whole = migrated k;
-  spare = λ old new o h takes. less (migrate_meaning k) old new (IsNewFront k.from k.to MOST_BYTES old new) (λ files. Untouched (files k.to)) (migrate_end k old new o) (migrate_answered k old new o h takes) (migrated k old new o) h;
+  spare = λ old new o h takes. less (migrate_meaning k) old new (IsNewFront k.from k.to MOST_BYTES old new) (λ files. Untouched (files k.to)) (migrate_ending k old new o) (migrate_answered k old new o h takes) (migrated k old new o) h;
   done = done_migrate k;
   once = λ old new o p told h says. elim (migrate_found k old new says.0 told says.1 o h) [ inl is ↦ inl (alike o p (one_end says.0 o p is says.2)) | inr memory ↦ inr memory ];
   formed = λ old new o forms h. elim (migrate_found k old new forms.bytes forms.told forms.file o h) [

@@ -2,9 +2,8 @@
 use Rattle.std.proofs.Common.{◌≡◌, ℕ, zero, suc, ◌+◌, ◌-◌, ◌*◌, ◌<◌, ◌≤◌, List, [], ◌∷◌, ◌⊎◌, length, true, Some, Ok, Err, IsTrue, refl, sym, ap, ◌∙◌, subst, arith, inl, inr}
 use Rattle.std.specs.Prelude.{Result, String, Vec, map, get_or}
 use Rattle.std.specs.declared.alloc.Global.{Global}
-use Rattle.fab_base.specs.Ending.{NoFaults, SparesReads, IsPrefixOf}
-use Rattle.fab_base.specs.Seen.{Seen, SameFiles, Touches, Nothing, Only, SameReadFaults, SameWriteFaults}
-use Rattle.fab_base.proofs.SeenLemmas.{touches_trans, touches_wider, reads_touches}
+use Rattle.fab_base.specs.Ending.{End, Said, Read, Memory, NoFaults, IsPrefixOf, Uses}
+use Rattle.fab_base.specs.Seen.{Seen, SameFiles, Touches, Nothing, Only}
 use Rattle.fab_config.specs.Settings.{Settings, is_in_range}
 use Rattle.pcap_file.specs.Capture.{HEAD}
 use Rattle.pcap_file.specs.declared.Budget.{Budget}
@@ -28,8 +27,9 @@ use Rattle.fab_windows.specs.Run.{AreGiven, IsRunOver, Runs, Finished, Stopped, 
 use Rattle.fab_windows.specs.declared.Done.{Done}
 use Rattle.fab_replay.proofs.OneLemmas.{same_frames}
 use Rattle.fabric_tool.specs.Command.{RunNames, Run, are_pairs, run_of, port_count, input_at}
-use Rattle.fab_base.proofs.EndingLemmas.{none_then}
+use Rattle.fab_base.proofs.EndingLemmas.{none_then, uses_refused, uses_then, uses_wider, rose_only}
 use Rattle.run_files.specs.Names.{Among}
+use Rattle.fabric_tool.specs.Ending.{CountsOf}
 use Rattle.fabric_tool.specs.Ends.{Holds, KeepsOthers}
 use Rattle.fabric_tool.specs.Inputs.{HasConfig, HasInputs, stop_of, kept_of, LIMITS, MOST_BYTES, MOST_FRAMES}
 use Rattle.fabric_tool.specs.Left.{HoldsAll, HoldsFronts, AreOldOrFront, HasRun, HasStopped, HasPart, LegalIsSafe}
@@ -48,7 +48,8 @@ use Rattle.fabric_tool.proofs.GivenLemmas.{outputs_count, written_among, read_am
 use Rattle.fabric_tool.proofs.HeadLemmas.{heads_still, heads_since, heads_count, heads_opened}
 use Rattle.fabric_tool.proofs.NameLemmas.{pairs, inputs_apart}
 use Rattle.fabric_tool.proofs.PartLemmas.{empty_part, unwritten}
-use Rattle.fabric_tool.proofs.ReadLemmas.{spares_by}
+use Rattle.fabric_tool.proofs.ReadLemmas.{config_refused}
+use Rattle.fabric_tool.proofs.UseLemmas.{used_files, used_told, used_counts}
 use Rattle.fabric_tool.proofs.SinceLemmas.{without_since, unread_since}
 
 le_trans : {x y z : ℕ} → x ≤ y → y ≤ z → x ≤ z
@@ -63,26 +64,25 @@ others_same k old new same m none = same m
 pub config_as : {m n : List ℕ} {a b : Seen} {r : Result Settings Outcome} → m ≡ n → ConfigRead m a b r → ConfigRead n a b r
 config_as {m} {n} {a} {b} {r} e read = subst (λ l. ConfigRead l a b r) e read
 
-config_touched : (k : RunNames) (old new : Seen) {r : Result Settings Outcome} → ConfigRead k.config old new r → Touches Nothing (Among (k.config ∷ k.ins)) old new
-config_touched k old new read = touches_wider Nothing (Only k.config) Nothing (Among (k.config ∷ k.ins)) old new (λ m x. x) (λ m x. inl x) (reads_touches k.config old new read.reads)
+-- what reading the configuration and the heads counts
+counted : (k : RunNames) {end : End} {old new : Seen} → Uses (Among (k.config ∷ k.ins)) Nothing end old new → CountsOf (k.config ∷ k.ins) (k.journal ∷ k.outs) end old new
+counted k used = used_counts used (k.config ∷ k.ins) (k.journal ∷ k.outs) (λ m x. x)
+
+config_alone : (k : RunNames) (end : End) (old new : Seen) → Uses (Only k.config) Nothing end old new → Uses (Among (k.config ∷ k.ins)) Nothing end old new
+config_alone k = uses_wider (Only k.config) Nothing (Among (k.config ∷ k.ins)) Nothing (λ m x. inl x) (λ m x. x)
 
 config_ended : (k : RunNames) (old new : Seen) (x : Outcome) → ConfigRead k.config old new (Err x) → Holds (Run k) old new x
-config_ended k old new x read = elim read.only [
-  | inl fault ↦ subst (Holds (Run k) old new) (sym fault.1) (read.reads.files, λ told. read.fault told fault.0 fault.1, (spares_by old new fault.1 read.counts, read.reads.writes))
-  | inr other ↦ elim other [
-    | inl failed ↦
-        let rose = read.cause (ap (λ (o : Outcome). let r : Result Settings Outcome = Err o in r) failed) in
-        subst (Holds (Run k) old new) (sym failed) (others_same k old new read.reads.files, λ told. inl (read.reads.files, rose), (inl rose, read.reads.writes))
-    | inr memory ↦ subst (Holds (Run k) old new) (sym memory) (others_same k old new read.reads.files, λ told. inl read.reads.files, (spares_by old new memory read.counts, read.reads.writes))
-  ]
-]
+config_ended k old new x read = config_refused read (Holds (Run k) old new)
+    (λ fault used says. (used_files used, says, counted k (config_alone k Said old new used)))
+    (λ used. (others_same k old new (used_files used), λ told. inl (used_files used, rose_only k.config old.read_faults new.read_faults used.counts.0), counted k (config_alone k Read old new used)))
+    (λ used. (others_same k old new (used_files used), λ told. inl (used_files used), counted k (config_alone k Memory old new used)))
 
 -- what holds where the command ends before a fabric is made
-unprepared : (k : RunNames) (old new : Seen) (x : Outcome) → Touches Nothing (Among (k.config ∷ k.ins)) old new → Holds (Run k) old new x → IsPrepared k old new (Err x)
-unprepared k old new x touches ended = record { touches = touches; fabric = tt; config = λ told. tt; heads = tt; left = tt; ended = ended; counts = tt }
+unprepared : (k : RunNames) (old new : Seen) (x : Outcome) → Uses (Among (k.config ∷ k.ins)) Nothing (outcome_end x) old new → Holds (Run k) old new x → IsPrepared k old new (Err x)
+unprepared k old new x used ended = record { uses = used; fabric = tt; config = λ told. tt; heads = tt; left = tt; ended = ended }
 
 pub no_config : (k : RunNames) {old new : Seen} {x : Outcome} → ConfigRead k.config old new (Err x) → IsPrepared k old new (Err x)
-no_config k {old} {new} {x} read = unprepared k old new x (config_touched k old new read) (config_ended k old new x read)
+no_config k {old} {new} {x} read = unprepared k old new x (config_alone k (outcome_end x) old new read.uses) (config_ended k old new x read)
 
 -- the heads of all ports are within the limit
 pub room_in : (words : List (String Global)) → are_pairs words ≡ true → HEAD * length (run_of words).ins ≤ MOST_BYTES
@@ -91,69 +91,54 @@ room_in words run = let n = length-counted (input_at words) 0 (port_count words)
 -- the configuration was read
 module _ (k : RunNames) {c : Settings} {old b : Seen} (config : ConfigRead k.config old b (Ok c)) where
   told_b : IsTrue old.told → IsTrue b.told
-  told_b told = subst IsTrue (sym config.reads.keeps.told) told
+  told_b = used_told config.uses
 
-  touched : Touches Nothing (Only k.config) old b
-  touched = reads_touches k.config old b config.reads
+  same_b : SameFiles old b
+  same_b = used_files config.uses
 
   module _ {new : Seen} where
+    with_heads : (end : End) → Uses (Among k.ins) Nothing end b new → Uses (Among (k.config ∷ k.ins)) Nothing end old new
+    with_heads end heads = uses_then (Among (k.config ∷ k.ins)) Nothing end old b new (config_alone k Said old b config.uses) (uses_wider (Among k.ins) Nothing (Among (k.config ∷ k.ins)) Nothing (λ m x. inr x) (λ m x. x) end b new heads)
+
     heads_ended : HEAD * length k.ins ≤ MOST_BYTES → (left : Budget) (x : Outcome) → HeadsRead k.ins b new LIMITS left (Err x) → Holds (Run k) old new x
-    heads_ended room left x read = go x read.ended read.counts
+    heads_ended room left x read = go x (with_heads (outcome_end x) read.uses) read.ended
       where
-        same : SameFiles old new
-        same m = read.touches.files m (λ y. y) ∙ config.reads.files m
-
-        writes : SameWriteFaults old new
-        writes m = read.writes m ∙ config.reads.writes m
-
-        none : SameReadFaults b new → NoFaults old new
-        none spares = (λ m. spares m ∙ config.counts m, writes)
-
-        go : (x : Outcome) → HeadsEnd k.ins MOST_BYTES b new x → SparesReads (outcome_end x) b new → Holds (Run k) old new x
-        go (ends.Capture port at reason) e spares = (
-          λ m other. same m,
-          λ told. inl (same, e.0, record { settings = c; config = config.ok told; first = without_since old b config.reads.files refl (e.2 (told_b told)) }),
-          none spares,
+        go : (x : Outcome) → Uses (Among (k.config ∷ k.ins)) Nothing (outcome_end x) old new → HeadsEnd k.ins MOST_BYTES b new x → Holds (Run k) old new x
+        go (ends.Capture port at reason) used e = (
+          λ m other. used_files used m,
+          λ told. inl (used_files used, e.0, record { settings = c; config = config.ok told; first = without_since old b same_b refl (e.2 (told_b told)) }),
+          counted k used,
         )
-        go (ends.Limit kind) e spares = let few = e.1 in absurd (omega arith)
-        go ends.ReadFault e spares = (
-          λ m other. same m,
-          λ told. inr (inl (same, record { settings = c; config = config.ok told; first = unread_since old b config.reads.files refl new touched.reads_rise (e.1 (told_b told)) })),
-          (inr (rose_since old.read_faults b.read_faults new.read_faults touched.reads_rise k.ins e.0), writes),
+        go (ends.Limit kind) used e = let few = e.1 in absurd (omega arith)
+        go ends.ReadFault used e = (
+          λ m other. used_files used m,
+          λ told. inr (inl (used_files used, record { settings = c; config = config.ok told; first = unread_since old b same_b refl new config.uses.touches.reads_rise (e (told_b told)) })),
+          counted k used,
         )
-        go ends.Memory e spares = (λ m other. same m, λ told. inl same, none spares)
-        go x e spares = absurd e
-
-    -- what reading the configuration and the heads changes
-    inputs_touched : Touches Nothing (Among k.ins) b new → Touches Nothing (Among (k.config ∷ k.ins)) old new
-    inputs_touched heads = touches_trans Nothing (Among (k.config ∷ k.ins)) old b new
-        (config_touched k old b config)
-        (touches_wider Nothing (Among k.ins) Nothing (Among (k.config ∷ k.ins)) b new (λ m x. x) (λ m x. inr x) heads)
+        go ends.Memory used e = (λ m other. used_files used m, λ told. inl (used_files used), counted k used)
+        go x used e = absurd e
 
     -- a head can't be read
     pub no_heads : {left : Budget} {x : Outcome} → HEAD * length k.ins ≤ MOST_BYTES → HeadsRead k.ins b new LIMITS left (Err x) → IsPrepared k old new (Err x)
-    no_heads {left} {x} room read = unprepared k old new x (inputs_touched read.touches) (heads_ended room left x read)
+    no_heads {left} {x} room read = unprepared k old new x (with_heads (outcome_end x) read.uses) (heads_ended room left x read)
 
     -- all heads are read, and no fault was counted up to there
     module _ {left : Budget} {ins : Vec Input Global} (read : HeadsRead k.ins b new LIMITS left (Ok ins)) where
-      none_yet : NoFaults old new
-      none_yet = none_then old b new (config.counts, config.reads.writes) (read.counts, read.writes)
+      all_read : Uses (Among (k.config ∷ k.ins)) Nothing Said old new
+      all_read = with_heads Said read.uses
 
       -- memory is refused
       pub no_fabric : IsPrepared k old new (Err ends.Memory)
-      no_fabric =
-          let same : SameFiles old new = λ m. read.touches.files m (λ y. y) ∙ config.reads.files m in
-          unprepared k old new ends.Memory (inputs_touched read.touches) (λ m other. same m, λ told. inl same, none_yet)
+      no_fabric = unprepared k old new ends.Memory (uses_refused (Among (k.config ∷ k.ins)) Nothing old new all_read) (λ m other. used_files all_read m, λ told. inl (used_files all_read), counted k all_read)
 
       pub with_fabric : (F : Contents) → F.settings ≡ c → IsNew F k.ins → IsPrepared k old new (Ok (record { fabric = F; ins = ins; budget = left }))
       with_fabric F is made = record {
-        touches = inputs_touched read.touches;
+        uses = all_read;
         fabric = made;
         config = λ told. subst (λ (s : Settings). HasConfig old k.config s) (sym is) (config.ok told);
-        heads = heads_since old b new config.reads.files told_b k.ins ins.items read.heads;
+        heads = heads_since old b new same_b told_b k.ins ins.items read.heads;
         left = read.taken;
         ended = tt;
-        counts = none_yet;
       }
 
 -- a fabric that was made of it
@@ -168,12 +153,12 @@ new_as words F c is range count state nothing = record {
 -- ---- outputs are opened
 
 module _ (k : RunNames) (c : Settings) (old m a : Seen) (ins : List Input)
-    (config : IsTrue old.told → HasConfig old k.config c) (inputs : Touches Nothing (Among (k.config ∷ k.ins)) old m) (heads : AreHeads old m k.ins ins) (opens : Opens (k.journal ∷ k.outs) m a) where
+    (config : IsTrue old.told → HasConfig old k.config c) (inputs : Uses (Among (k.config ∷ k.ins)) Nothing Said old m) (heads : AreHeads old m k.ins ins) (opens : Opens (k.journal ∷ k.outs) m a) where
   told_m : IsTrue old.told → IsTrue m.told
-  told_m told = subst IsTrue (sym inputs.told) told
+  told_m = used_told inputs
 
   others_opened : KeepsOthers (Run k) old a
-  others_opened name none = opens.touches.files name (none_among (k.journal ∷ k.outs) name none) ∙ inputs.files name (λ x. x)
+  others_opened name none = opens.touches.files name (none_among (k.journal ∷ k.outs) name none) ∙ used_files inputs name
 
   -- one of them can't be
   pub not_opened : NothingIsRun → OpenedUpTo (k.journal ∷ k.outs) m a → Holds (Run k) old a ends.WriteFault
@@ -181,9 +166,9 @@ module _ (k : RunNames) (c : Settings) (old m a : Seen) (ins : List Input)
     others_opened,
     λ told. inr (empty_part k c (opened_in m ins) old a nothing
         (record { config = config told; heads = heads_opened old m k.ins ins told heads })
-        (λ name. elim (opens.each (told_m told) name) [ inl same ↦ inl (same ∙ inputs.files name (λ x. x)) | inr empty ↦ inr empty ])
-        (unwritten (k.journal ∷ k.outs) old m a (λ name. inputs.files name (λ x. x)) (told_m told) up_to)),
-    rose_since old.write_faults m.write_faults a.write_faults inputs.writes_rise (k.journal ∷ k.outs) (up_to_rose (k.journal ∷ k.outs) m a up_to),
+        (λ name. elim (opens.each (told_m told) name) [ inl same ↦ inl (same ∙ used_files inputs name) | inr empty ↦ inr empty ])
+        (unwritten (k.journal ∷ k.outs) old m a (used_files inputs) (told_m told) up_to)),
+    rose_since old.write_faults m.write_faults a.write_faults inputs.touches.writes_rise (k.journal ∷ k.outs) (up_to_rose (k.journal ∷ k.outs) m a up_to),
   )
 
 -- ---- what is handed to the windows
@@ -279,7 +264,7 @@ held_fronts a b (n ∷ names) (s ∷ slots) g k are each =
 
 module _ (words : List (String Global)) (run : are_pairs words ≡ true) (c : Settings) (old m a b : Seen) (ins : List Input) (journal : ℕ) (outs : List ℕ) (budget : Budget)
     (range : IsTrue (is_in_range c)) (safe : LegalIsSafe)
-    (config : IsTrue old.told → HasConfig old (run_of words).config c) (inputs : Touches Nothing (Among ((run_of words).config ∷ (run_of words).ins)) old m) (heads : AreHeads old m (run_of words).ins ins)
+    (config : IsTrue old.told → HasConfig old (run_of words).config c) (inputs : Uses (Among ((run_of words).config ∷ (run_of words).ins)) Nothing Said old m) (heads : AreHeads old m (run_of words).ins ins)
     (opens : Opens ((run_of words).journal ∷ (run_of words).outs) m a) (outputs : AreEmptyOutputs a ((run_of words).journal ∷ (run_of words).outs) (journal ∷ outs))
     (bytes : budget.bytes + 24 * length (run_of words).ins ≡ MOST_BYTES) (frames : budget.frames ≡ MOST_FRAMES) (quiet : NoFaults old a) where
   abbrev k : RunNames
@@ -292,7 +277,7 @@ module _ (words : List (String Global)) (run : are_pairs words ≡ true) (c : Se
   heads_a = heads_still old m a k.ins ins (Among (k.journal ∷ k.outs)) (Among (k.journal ∷ k.outs)) opens.touches (inputs_apart words run) heads
 
   told_a : IsTrue old.told → IsTrue a.told
-  told_a told = subst IsTrue (sym opens.touches.told) (subst IsTrue (sym inputs.told) told)
+  told_a told = subst IsTrue (sym opens.touches.told) (used_told inputs told)
 
   has : IsTrue old.told → HasInputs k old c opened
   has told = record { config = config told; heads = heads_opened old a k.ins ins told heads_a }
@@ -318,7 +303,7 @@ module _ (words : List (String Global)) (run : are_pairs words ≡ true) (c : Se
     others : KeepsOthers (Run k) old b
     others name none =
         let apart = none_among (k.journal ∷ k.outs) name none in
-        touches.files name (λ w. apart (written_among words run old a ins journal outs heads_a outputs name w)) ∙ opens.touches.files name apart ∙ inputs.files name (λ x. x)
+        touches.files name (λ w. apart (written_among words run old a ins journal outs heads_a outputs name w)) ∙ opens.touches.files name apart ∙ used_files inputs name
 
     named : AreNamed b (k.journal ∷ k.outs) (journal ∷ outs)
     named = named_still a b _ _ touches (k.journal ∷ k.outs) (journal ∷ outs) outputs
@@ -414,7 +399,7 @@ module _ (words : List (String Global)) (run : are_pairs words ≡ true) (c : Se
       let l = slots_length words run old a ins journal outs heads_a outputs in
       let lt = rose.1 in
       let among = read_among words run old a ins journal outs heads_a outputs (name_of a (slots_of ins) rose.0) (rose.0, omega arith, refl) in
-      let le = λ (n : List ℕ). le_trans (inputs.reads_rise n) (opens.touches.reads_rise n) in
+      let le = λ (n : List ℕ). le_trans (inputs.touches.reads_rise n) (opens.touches.reads_rise n) in
       let unread = rose_since old.read_faults a.read_faults b.read_faults le k.ins (rose_among a.read_faults b.read_faults k.ins (name_of a (slots_of ins) rose.0) among rose.2) in (
         others r.touches,
         λ told. inr (inr (unread, interrupted_whole r.touches told (r.ends (told_a told)))),
@@ -423,7 +408,7 @@ module _ (words : List (String Global)) (run : are_pairs words ≡ true) (c : Se
   windows_ended (Err faults.Write) r =
       let rose = r.write refl in
       let among = written_among words run old a ins journal outs heads_a outputs rose.0 rose.1 in
-      let le = λ (n : List ℕ). le_trans (inputs.writes_rise n) (opens.touches.writes_rise n) in (
+      let le = λ (n : List ℕ). le_trans (inputs.touches.writes_rise n) (opens.touches.writes_rise n) in (
         others r.touches,
         λ told. inr (interrupted_front r.touches told (r.ends (told_a told))),
         rose_since old.write_faults a.write_faults b.write_faults le (k.journal ∷ k.outs) (rose_among a.write_faults b.write_faults (k.journal ∷ k.outs) rose.0 among rose.2),

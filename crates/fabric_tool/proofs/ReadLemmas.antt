@@ -3,11 +3,11 @@ use Rattle.std.proofs.Common.{◌≡◌, ℕ, ◌<◌, List, ◌++◌, length, l
 use Rattle.std.specs.Prelude.{Result}
 use Rattle.std.proofs.lemmas.Bool.{lt-ltb}
 use Rattle.std.proofs.lemmas.List.{append-nil, length-take-le}
-use Rattle.fab_base.specs.Ending.{SparesReads}
-use Rattle.fab_base.specs.Seen.{Seen, Reads, Rose, OpensIn, Fills}
+use Rattle.fab_base.specs.Ending.{End, Said, Read, Memory, Uses}
+use Rattle.fab_base.specs.Seen.{Seen, Nothing, Only, OpensIn, Fills}
 use Rattle.fab_base.specs.declared.values.Failed.{Failed}
-use Rattle.fab_base.proofs.Depots.{reads_refl, reads_trans, rose_later, told_stays}
-use Rattle.fab_base.proofs.EndingLemmas.{spares_reads_then}
+use Rattle.fab_base.proofs.SeenLemmas.{told_stays}
+use Rattle.fab_base.proofs.EndingLemmas.{uses_none, uses_refused, uses_then, uses_read, opens_in_uses}
 use Rattle.fab_config.specs.Settings.{Settings}
 use Rattle.fab_config.specs.Text.{decoded}
 use Rattle.fab_config.specs.Told.{TellsText}
@@ -16,14 +16,11 @@ use Rattle.fab_config.specs.declared.ConfigWhy.TheVariants as why
 use Rattle.fab_config.specs.declared.reading.ConfigError.{ConfigError}
 use Rattle.fab_config.specs.declared.reading.ConfigError.TheVariants as errors
 use Rattle.pcap_file.proofs.lemmas.Numbers.{le_or_lt}
+use Rattle.fabric_tool.specs.Inputs.{HasFault}
 use Rattle.fabric_tool.specs.Outcome.{outcome_end}
 use Rattle.fabric_tool.specs.Reading.{TextRead, ConfigRead, misread_by}
 use Rattle.fabric_tool.specs.declared.outcome.Outcome.{Outcome}
 use Rattle.fabric_tool.specs.declared.outcome.Outcome.TheVariants as ends
-
--- of an outcome that is this one
-pub spares_by : {x o : Outcome} (a b : Seen) → x ≡ o → SparesReads (outcome_end x) a b → SparesReads (outcome_end o) a b
-spares_by {x} {o} a b is spares = subst (λ (y : Outcome). SparesReads (outcome_end y) a b) is spares
 
 -- ---- a configuration
 
@@ -34,7 +31,7 @@ long_text l lt = rw (lt-ltb 1048576 (length l) lt, decoded) refl
 module _ (s : ℕ) (a b : Seen) (text : List ℕ) where
   -- the text couldn't be read
   pub text_failed : (e : Failed) → Fills {E = Failed} s text a b (Err e) → TextRead s a b (Err ends.ReadFault)
-  text_failed e f = record { reads = f.reads; ok = λ told. tt; fault = λ told x h. absurd (cc); cause = λ h. f.cause; only = inr (inl refl); counts = tt }
+  text_failed e f = record { uses = uses_read (a.name s) Read a b f.reads (f.cause, f.reads.writes); ok = λ told. tt; fault = λ told x h. absurd (cc); only = inr (inl refl) }
 
   module _ (got : ℕ) (f : Fills {E = Failed} s text a b (Ok got)) (size : length text ≡ 1048577) where
     -- what was got has the value of what is left, also where more is left than the room takes
@@ -47,21 +44,17 @@ module _ (s : ℕ) (a b : Seen) (text : List ℕ) where
       | inr lt ↦ ap decoded (sym (append-nil (take got text)) ∙ ap (λ l. take got text ++ l) (sym (f.ended told (omega arith))) ∙ f.taken told)
     ]
 
+    filled : Uses (Only (a.name s)) Nothing Said a b
+    filled = uses_read (a.name s) Said a b f.reads (f.counts, f.reads.writes)
+
     pub text_value : (c : Settings) → decoded (take got text) ≡ Ok c → TextRead s a b (Ok c)
-    text_value c is = record { reads = f.reads; ok = λ told. sym (same_value told) ∙ is; fault = λ told. tt; cause = λ h. absurd (cc); only = tt; counts = f.counts }
+    text_value c is = record { uses = filled; ok = λ told. sym (same_value told) ∙ is; fault = λ told. tt; only = tt }
 
     text_fault : (x : ConfigFault) → decoded (take got text) ≡ Err x → TextRead s a b (Err (ends.Config x))
-    text_fault x is = record {
-      reads = f.reads;
-      ok = λ told. tt;
-      fault = λ told y h. let same : x ≡ y = cc in sym (same_value told) ∙ is ∙ ap (λ (z : ConfigFault). Err z) same;
-      cause = λ h. absurd (cc);
-      only = inl (x, refl);
-      counts = f.counts;
-    }
+    text_fault x is = record { uses = filled; ok = λ told. tt; fault = λ told y h. let same : x ≡ y = cc in sym (same_value told) ∙ is ∙ ap (λ (z : ConfigFault). Err z) same; only = inl (x, refl) }
 
     text_memory : TextRead s a b (Err ends.Memory)
-    text_memory = record { reads = f.reads; ok = λ told. tt; fault = λ told x h. absurd (cc); cause = λ h. absurd (cc); only = inr (inr refl); counts = f.counts }
+    text_memory = record { uses = uses_refused (Only (a.name s)) Nothing a b filled; ok = λ told. tt; fault = λ told x h. absurd (cc); only = inr (inr refl) }
 
     -- an error of reading what was got
     pub text_misread : (e : ConfigError) → TellsText e (decoded (take got text)) → TextRead s a b (Err (misread_by e))
@@ -69,33 +62,33 @@ module _ (s : ℕ) (a b : Seen) (text : List ℕ) where
     text_misread errors.Memory tells = text_memory
 
 pub text_no_room : (s : ℕ) (a : Seen) → TextRead s a a (Err ends.Memory)
-text_no_room s a = record { reads = reads_refl (a.name s) a; ok = λ told. tt; fault = λ told x h. absurd (cc); cause = λ h. absurd (cc); only = inr (inr refl); counts = λ m. refl }
+text_no_room s a = record { uses = uses_refused (Only (a.name s)) Nothing a a (uses_none (Only (a.name s)) Nothing a); ok = λ told. tt; fault = λ told x h. absurd (cc); only = inr (inr refl) }
 
 -- a configuration that was opened and read
 module _ (name : List ℕ) (s : ℕ) (a b c : Seen) (opens : OpensIn {E = Failed} name a b (Ok s)) where
-  is_name : b.name s ≡ name
-  is_name = opens.opened.2
-
   told_b : IsTrue a.told → IsTrue b.told
   told_b = told_stays name a b opens.reads.keeps
 
+  behind : (end : End) → Uses (Only (b.name s)) Nothing end b c → Uses (Only name) Nothing end a c
+  behind end u = uses_then (Only name) Nothing end a b c (opens_in_uses a b name (Ok s) opens) (subst (λ n. Uses (Only n) Nothing end b c) opens.opened.2 u)
+
   pub config_opened : (r : Result Settings Outcome) → TextRead s b c r → ConfigRead name a c r
-  config_opened (Ok x) t = record {
-    reads = reads_trans name a b c opens.reads (subst (λ n. Reads n b c) is_name t.reads);
-    ok = λ told. record { text = b.left s; file = opens.left told; value = t.ok (told_b told) };
-    fault = λ told. tt;
-    cause = λ h. absurd (cc);
-    only = tt;
-    counts = λ m. t.counts m ∙ opens.counts m;
-  }
-  config_opened (Err e) t = record {
-    reads = reads_trans name a b c opens.reads (subst (λ n. Reads n b c) is_name t.reads);
-    ok = λ told. tt;
-    fault = λ told f h. record { text = b.left s; file = opens.left told; value = t.fault (told_b told) f h };
-    cause = λ h. rose_later _ _ _ opens.reads.keeps.reads_rise (subst (λ n. Rose (b.read_faults n) (c.read_faults n)) is_name (t.cause h));
-    only = t.only;
-    counts = spares_reads_then (outcome_end e) a b c opens.counts t.counts;
-  }
+  config_opened (Ok x) t = record { uses = behind Said t.uses; ok = λ told. record { text = b.left s; file = opens.left told; value = t.ok (told_b told) }; fault = λ told. tt; only = tt }
+  config_opened (Err e) t = record { uses = behind (outcome_end e) t.uses; ok = λ told. tt; fault = λ told f h. record { text = b.left s; file = opens.left told; value = t.fault (told_b told) f h }; only = t.only }
 
 pub config_unopened : (name : List ℕ) (a b : Seen) (e : Failed) → OpensIn {E = Failed} name a b (Err e) → ConfigRead name a b (Err ends.ReadFault)
-config_unopened name a b e opens = record { reads = opens.reads; ok = λ told. tt; fault = λ told f h. absurd (cc); cause = λ h. opens.cause; only = inr (inl refl); counts = tt }
+config_unopened name a b e opens = record { uses = opens_in_uses a b name (Err e) opens; ok = λ told. tt; fault = λ told f h. absurd (cc); only = inr (inl refl) }
+
+-- a configuration that isn't taken: a fault of the text, one of the depot, or want of memory
+module _ {name : List ℕ} {a b : Seen} {x : Outcome} (read : ConfigRead name a b (Err x)) (P : Outcome → Type 0) where
+  pub config_refused : ((f : ConfigFault) → Uses (Only name) Nothing Said a b → (IsTrue a.told → HasFault a name f) → P (ends.Config f)) → (Uses (Only name) Nothing Read a b → P ends.ReadFault) → (Uses (Only name) Nothing Memory a b → P ends.Memory) → P x
+  config_refused faulty failed refused = elim read.only [
+    | inl fault ↦ subst P (sym fault.1) (faulty fault.0 (ends_so fault.1) (λ told. read.fault told fault.0 fault.1))
+    | inr other ↦ elim other [
+      | inl is ↦ subst P (sym is) (failed (ends_so is))
+      | inr is ↦ subst P (sym is) (refused (ends_so is))
+    ]
+  ]
+    where
+      ends_so : {y : Outcome} → x ≡ y → Uses (Only name) Nothing (outcome_end y) a b
+      ends_so {y} is = subst (λ (o : Outcome). Uses (Only name) Nothing (outcome_end o) a b) is read.uses

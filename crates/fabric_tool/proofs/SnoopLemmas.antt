@@ -2,10 +2,10 @@
 use Rattle.std.proofs.Common.{◌≡◌, ℕ, List, ◌++◌, [], ◌∷◌, length, ◌⊎◌, Ok, Err, IsTrue, refl, sym, ap, ◌∙◌, subst, arith, inl, inr}
 use Rattle.std.specs.Prelude.{Result, String, map}
 use Rattle.std.specs.declared.alloc.Global.{Global}
-use Rattle.fab_base.specs.Ending.{end_by, NoFaults, Counts, RoseIn}
-use Rattle.fab_base.specs.Seen.{Seen, Rose, SameFiles, Touches, Nothing, Only}
+use Rattle.fab_base.specs.Ending.{End, end_by, NoFaults, Counts, RoseIn, Uses}
+use Rattle.fab_base.specs.Seen.{Seen, SameFiles, Touches, Nothing, Only}
 use Rattle.fab_base.specs.Sunk.{Sunk}
-use Rattle.fab_base.proofs.SeenLemmas.{reads_touches, rose_later}
+use Rattle.fab_base.proofs.SeenLemmas.{rose_later}
 use Rattle.fab_config.specs.Settings.{Settings}
 use Rattle.fab_config.specs.declared.ConfigFault.{ConfigFault}
 use Rattle.pcap_file.specs.Captures.{captures_by}
@@ -25,22 +25,24 @@ use Rattle.run_files.specs.Faults.{fault_from, run_end}
 use Rattle.run_files.specs.Names.{Among}
 use Rattle.run_files.specs.declared.fault.RunFault.{RunFault}
 use Rattle.run_files.specs.declared.fault.RunFault.TheVariants as faults
+use Rattle.fabric_tool.specs.Ending.{CountsOf}
 use Rattle.fabric_tool.specs.Ends.{TakesMemory, Holds, KeepsOthers}
 use Rattle.fabric_tool.specs.Inputs.{HasConfig, HasFault, LIMITS}
 use Rattle.fabric_tool.specs.Opening.{stopped_by, crossed_by}
 use Rattle.fabric_tool.specs.Outcome.{status_of, line_of}
 use Rattle.fabric_tool.specs.Reading.{ConfigRead}
-use Rattle.fabric_tool.specs.Snooping.{HasSnooped, HasSnoopedFront, HasSnoopFront, IsCaptureUnread, IsSnoopStopped, snoop_end, SnoopEnded, SnoopForms, SnoopSays, crossing_of, snoop_meaning}
+use Rattle.fabric_tool.specs.Snooping.{HasSnooped, HasSnoopedFront, HasSnoopFront, IsCaptureUnread, IsSnoopStopped, snoop_ending, SnoopEnded, SnoopForms, SnoopSays, crossing_of, snoop_meaning}
 use Rattle.fabric_tool.specs.declared.outcome.Outcome.{Outcome}
 use Rattle.fabric_tool.specs.declared.outcome.Outcome.TheVariants as ends
 use Rattle.fabric_tool.proofs.EndingLemmas.{Left, Said, IsAnswer, less}
 use Rattle.fabric_tool.proofs.Laws.{Laws, PrintsAlike, alike}
 use Rattle.fabric_tool.proofs.AmongLemmas.{none_among}
-use Rattle.fab_base.proofs.EndingLemmas.{none_then}
+use Rattle.fab_base.proofs.EndingLemmas.{none_then, rose_only}
 use Rattle.run_files.proofs.NameLemmas.{rose_among, rose_since}
 use Rattle.fabric_tool.proofs.ConfigLemmas.{one_value, one_fault, no_fault}
 use Rattle.fabric_tool.proofs.PartLemmas.{all_fronts}
-use Rattle.fabric_tool.proofs.ReadLemmas.{spares_by}
+use Rattle.fabric_tool.proofs.ReadLemmas.{config_refused}
+use Rattle.fabric_tool.proofs.UseLemmas.{used_touches, used_files, used_told, used_counts}
 
 -- whole captures are fronts
 whole_captures : (k : SnoopNames) (passes drops : ℕ) (old new : Seen) → HasSnooped k passes drops old new → HasSnoopedFront k old new
@@ -52,13 +54,13 @@ whole_captures k passes drops old new h =
       fronts = record { came = arrivals b.records; crosses = b.crosses; outputs = all_fronts old new k.outs (captures h.settings (length k.outs) (arrivals b.records)) b.outputs };
     }
 
-snoop_front : (k : SnoopNames) (old new : Seen) (o : Outcome) → Left (snoop_end k old new o) → HasSnoopFront k old new
+snoop_front : (k : SnoopNames) (old new : Seen) (o : Outcome) → Left (snoop_ending k old new o) → HasSnoopFront k old new
 snoop_front k old new (ends.Bridged passes drops) h = inr (whole_captures k passes drops old new h)
 snoop_front k old new ends.WriteFault h = inr h
 snoop_front k old new ends.Memory h = h
 snoop_front k old new o h = absurd h
 
-snoop_answered : (k : SnoopNames) (old new : Seen) (o : Outcome) → Holds (Snoop k) old new o → TakesMemory o → IsAnswer (snoop_end k old new o)
+snoop_answered : (k : SnoopNames) (old new : Seen) (o : Outcome) → Holds (Snoop k) old new o → TakesMemory o → IsAnswer (snoop_ending k old new o)
 snoop_answered k old new (ends.Bridged passes drops) h takes = tt
 snoop_answered k old new (ends.Config fault) h takes = tt
 snoop_answered k old new (ends.Capture port at reason) h takes = tt
@@ -132,7 +134,7 @@ module _ (k : SnoopNames) (d : Seen) where
 
   module _ (new : Seen) (told : IsTrue d.told) where
     -- an outcome is what the inputs name, or want of memory
-    ended : (o : Outcome) → Said d (snoop_end k d new o) → Finds k d o ⊎ (o ≡ ends.Memory)
+    ended : (o : Outcome) → Said d (snoop_ending k d new o) → Finds k d o ⊎ (o ≡ ends.Memory)
     ended (ends.Bridged passes drops) h = inl (crossed passes drops new (h told))
     ended (ends.Config fault) h = inl (inl (fault, h told, refl))
     ended (ends.Capture port at why) h = inl (refusal (gather.Capture port at why) (h told))
@@ -140,11 +142,11 @@ module _ (k : SnoopNames) (d : Seen) where
     ended ends.Memory h = inr refl
     ended o h = absurd h
 
-    snoop_once : (o p : Outcome) → Said d (snoop_end k d new o) → SnoopSays k d p → PrintsAlike o p ⊎ (o ≡ ends.Memory)
+    snoop_once : (o p : Outcome) → Said d (snoop_ending k d new o) → SnoopSays k d p → PrintsAlike o p ⊎ (o ≡ ends.Memory)
     snoop_once o p holds says = elim (ended o holds) [ inl finds ↦ inl (alike o p (found_once o p finds (said p says))) | inr memory ↦ inr memory ]
 
     -- inputs of the right form end with status 0
-    snoop_formed : SnoopForms k d → (o : Outcome) → Said d (snoop_end k d new o) → (status_of o ≡ 0) ⊎ (o ≡ ends.Memory)
+    snoop_formed : SnoopForms k d → (o : Outcome) → Said d (snoop_ending k d new o) → (status_of o ≡ 0) ⊎ (o ≡ ends.Memory)
     snoop_formed forms o holds =
         let L = history (forwarder_of forms.settings) [] forms.came in
         let p = ends.Bridged (passed L) (dropped L) in
@@ -164,7 +166,7 @@ pub snoop_laws : (k : SnoopNames) → Laws (snoop_meaning k)
 snoop_laws k = record {
   same = λ old new files. inl files;
   whole = snoop_front k;
-  spare = λ old new o h takes. less (snoop_meaning k) old new (HasSnoopFront k old new) (λ files. inl files) (snoop_end k old new o) (snoop_answered k old new o h takes) (snoop_front k old new o) h;
+  spare = λ old new o h takes. less (snoop_meaning k) old new (HasSnoopFront k old new) (λ files. inl files) (snoop_ending k old new o) (snoop_answered k old new o h takes) (snoop_front k old new o) h;
   done = done_snoop k;
   once = λ old new o p told. snoop_once k old new told o p;
   formed = λ old new o forms. snoop_formed k old new forms.told forms o;
@@ -174,16 +176,13 @@ snoop_laws k = record {
 
 -- the configuration can't be taken
 pub not_configured : (k : SnoopNames) (old new : Seen) (x : Outcome) → ConfigRead k.config old new (Err x) → Holds (Snoop k) old new x
-not_configured k old new x read = elim read.only [
-  | inl fault ↦ subst (Holds (Snoop k) old new) (sym fault.1) (read.reads.files, λ told. read.fault told fault.0 fault.1, (spares_by old new fault.1 read.counts, read.reads.writes))
-  | inr other ↦ elim other [
-    | inl failed ↦ subst (Holds (Snoop k) old new) (sym failed) (read.reads.files, λ told. inl (rose failed), (inl (rose failed), read.reads.writes))
-    | inr memory ↦ subst (Holds (Snoop k) old new) (sym memory) ((λ m other. read.reads.files m), λ told. inl read.reads.files, (spares_by old new memory read.counts, read.reads.writes))
-  ]
-]
+not_configured k old new x read = config_refused read (Holds (Snoop k) old new)
+    (λ f used says. (used_files used, says, counted used))
+    (λ used. (used_files used, λ told. inl (rose_only k.config old.read_faults new.read_faults used.counts.0), counted used))
+    (λ used. ((λ m other. used_files used m), λ told. inl (used_files used), counted used))
   where
-    rose : x ≡ ends.ReadFault → Rose (old.read_faults k.config) (new.read_faults k.config)
-    rose failed = read.cause (ap (λ (o : Outcome). let r : Result Settings Outcome = Err o in r) failed)
+    counted : {end : End} → Uses (Only k.config) Nothing end old new → CountsOf (k.config ∷ k.ins) k.outs end old new
+    counted used = used_counts used (k.config ∷ k.ins) k.outs (λ m is. inl is)
 
 -- the names of the ports, as words
 pub bridges_as : {x y : List (String Global)} {c : Settings} {b z : Seen} {r : Result Crossed RunFault} → x ≡ y → Bridges (ins_of x) (outs_of x) LIMITS c b z r → Bridges (ins_of y) (outs_of y) LIMITS c b z r
@@ -196,16 +195,16 @@ files_since a b same (n ∷ names) = let first = same n in let rest = files_sinc
 
 module _ (k : SnoopNames) (c : Settings) (a b z : Seen) (config : ConfigRead k.config a b (Ok c)) (law : DataGoesUp) (downs : DataGoesDown) (apart : ENodesAreApart) where
   same : SameFiles a b
-  same = config.reads.files
+  same = used_files config.uses
 
   told_b : IsTrue a.told → IsTrue b.told
-  told_b told = subst IsTrue (sym config.reads.keeps.told) told
+  told_b = used_told config.uses
 
   counted : NoFaults a b
-  counted = (config.counts, config.reads.writes)
+  counted = config.uses.counts
 
   touched : Touches Nothing (Only k.config) a b
-  touched = reads_touches k.config a b config.reads
+  touched = used_touches config.uses
 
   bridged_since : (done : Crossed) → HasBridged k.ins k.outs LIMITS c b z done → IsTrue a.told → HasSnooped k done.passed done.dropped a z
   bridged_since done h told = record {

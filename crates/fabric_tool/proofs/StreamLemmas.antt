@@ -4,7 +4,7 @@ use Rattle.std.specs.Prelude.{is_some}
 use Rattle.pcap_file.specs.declared.Budget.{Budget}
 use Rattle.pcapng_file.specs.declared.NgRecord.{NgRecord}
 use Rattle.pcapng_file.specs.declared.fault.NgError.{NgError}
-use Rattle.pcapng_file.specs.File.{Section, before_all, content_at, head_at, after, found, Blocks, IsNg}
+use Rattle.pcapng_file.specs.File.{Section, before_all, content_at, head_at, after, Blocks, IsNg}
 use Rattle.pcapng_file.specs.Stream.{Parts}
 use Rattle.fab_live.specs.Live.{Begins, Stops}
 

@@ -2,11 +2,12 @@
 use Rattle.std.proofs.Common.{◌≡◌, ℕ, List, [], ◌∷◌, ◌++◌, Ok, true, Some, inl, inr, refl, sym, ◌∙◌, subst}
 use Rattle.std.specs.Prelude.{Result, String}
 use Rattle.std.specs.declared.alloc.Global.{Global}
-use Rattle.fab_base.specs.Ending.{Either}
-use Rattle.fab_base.specs.Seen.{Seen, Touches, Nothing, Only, Reads, OpensIn}
+use Rattle.fab_base.specs.Ending.{End, Said, Either, Uses}
+use Rattle.fab_base.specs.Seen.{Seen, Touches, Nothing, Only, OpensIn}
 use Rattle.fab_base.specs.Slots.{NameIn}
 use Rattle.fab_base.specs.declared.values.Failed.{Failed}
-use Rattle.fab_base.proofs.SeenLemmas.{touches_trans, touches_wider, reads_touches}
+use Rattle.fab_base.proofs.EndingLemmas.{opens_in_uses}
+use Rattle.fab_base.proofs.SeenLemmas.{touches_trans, touches_wider}
 use Rattle.fab_config.specs.Settings.{Settings}
 use Rattle.fab_gather.specs.First.{start_at}
 use Rattle.fab_gather.specs.Ports.{slots_of}
@@ -23,24 +24,26 @@ use Rattle.pcap_file.specs.declared.Budget.{Budget}
 use Rattle.run_files.specs.Names.{Among}
 use Rattle.run_files.specs.Opening.{AreEmptyOutputs, Opens}
 use Rattle.run_files.specs.declared.fault.RunFault.{RunFault}
-use Rattle.run_files.proofs.NameLemmas.{among_front, among_back, among_split}
+use Rattle.run_files.proofs.NameLemmas.{among_front, among_back}
 use Rattle.snoop_run.specs.Bridged.{Bridges}
 use Rattle.snoop_run.specs.declared.run.Crossed.{Crossed}
-use Rattle.fabric_tool.specs.Checking.{AreOpenInputs, command_of}
+use Rattle.fabric_tool.specs.Checking.{AreOpenInputs, command_of, reads_of}
 use Rattle.fabric_tool.specs.Command.{Command, Run, Snoop, Live, SnoopNames, are_pairs, are_ports, is_live, run_of, live_of, names_of, ins_of, named, form_of, command}
 use Rattle.fabric_tool.specs.Ends.{inputs, outputs, TouchesOwn}
-use Rattle.fabric_tool.specs.Opening.{RecordedOpened}
+use Rattle.fabric_tool.specs.Opening.{RecordedOpened, HasWidth}
 use Rattle.fabric_tool.specs.Reading.{AreHeads}
 use Rattle.fabric_tool.specs.declared.command.Form.{Form}
 use Rattle.fabric_tool.specs.declared.command.Width.{Width}
 use Rattle.fabric_tool.specs.declared.command.Width.TheVariants as widths
 use Rattle.fabric_tool.specs.declared.live.Recorded.{Recorded}
+use Rattle.fabric_tool.proofs.CheckLemmas.{checked, first_two}
 use Rattle.fabric_tool.proofs.FormLemmas.{command_is}
 use Rattle.fabric_tool.proofs.GivenLemmas as given
 use Rattle.fabric_tool.proofs.HeadLemmas.{heads_still}
 use Rattle.fabric_tool.proofs.LivingLemmas as living
 use Rattle.fabric_tool.proofs.NameLemmas.{inputs_apart}
 use Rattle.fabric_tool.proofs.SlotLemmas.{slots_among, all_named}
+use Rattle.fabric_tool.proofs.UseLemmas.{used_touches}
 
 module _ (k : Command) where
   pub own_then : (a b c : Seen) → TouchesOwn k a b → TouchesOwn k b c → TouchesOwn k a c
@@ -54,8 +57,8 @@ module _ (k : Command) where
   pub own_read : (names : List ℕ → Type 0) (a b : Seen) → ((m : List ℕ) → names m → Among (inputs k) m) → Touches Nothing names a b → TouchesOwn k a b
   own_read names a b are = own_wider Nothing names a b (λ m x. absurd x) (λ m x. inl (are m x))
 
-  pub own_input : (name : List ℕ) (a b : Seen) → Among (inputs k) name → Reads name a b → TouchesOwn k a b
-  own_input name a b is reads = own_read (Only name) a b (λ m e. subst (Among (inputs k)) (sym e) is) (reads_touches name a b reads)
+  pub own_input : (name : List ℕ) {end : End} (a b : Seen) → Among (inputs k) name → Uses (Only name) Nothing end a b → TouchesOwn k a b
+  own_input name a b is used = own_read (Only name) a b (λ m e. subst (Among (inputs k)) (sym e) is) (used_touches used)
 
   -- that write outputs
   pub own_written : (a b : Seen) → Touches (Among (outputs k)) (Among (outputs k)) a b → TouchesOwn k a b
@@ -69,7 +72,7 @@ module _ (k : Command) where
 
 -- ---- `run`
 
-pub windows_own : (words : List (String Global)) → are_pairs words ≡ true → (old m a b : Seen) (ins : List Input) (journal : ℕ) (outs : List ℕ) → Touches Nothing (Among ((run_of words).config ∷ (run_of words).ins)) old m → AreHeads old m (run_of words).ins ins →
+pub windows_own : (words : List (String Global)) → are_pairs words ≡ true → (old m a b : Seen) (ins : List Input) (journal : ℕ) (outs : List ℕ) → Uses (Among ((run_of words).config ∷ (run_of words).ins)) Nothing Said old m → AreHeads old m (run_of words).ins ins →
     Opens ((run_of words).journal ∷ (run_of words).outs) m a → AreEmptyOutputs a ((run_of words).journal ∷ (run_of words).outs) (journal ∷ outs) → {c : Settings} {budget : Budget} {r : Result Done RunFault} → Runs c (start_at a ins budget) b (file_slots journal outs) r →
     TouchesOwn (Run (run_of words)) old b
 windows_own words run old m a b ins journal outs inputs heads opens outputs runs =
@@ -77,69 +80,65 @@ windows_own words run old m a b ins journal outs inputs heads opens outputs runs
     let heads_a = heads_still old m a k.ins ins (Among (k.journal ∷ k.outs)) (Among (k.journal ∷ k.outs)) opens.touches (inputs_apart words run) heads in
     let written = given.written_among words run old a ins journal outs heads_a outputs in
     let read = given.read_among words run old a ins journal outs heads_a outputs in
-    own_then (Run k) old m b (own_read (Run k) (Among (k.config ∷ k.ins)) old m (λ n x. x) inputs)
+    own_then (Run k) old m b (own_read (Run k) (Among (k.config ∷ k.ins)) old m (λ n x. x) (used_touches inputs))
     (own_then (Run k) m a b (own_written (Run k) m a opens.touches)
     (own_wider (Run k) _ _ a b written (λ n x. elim x [ inl w ↦ inr (written n w) | inr i ↦ inl (inr (read n i)) ]) runs.touches))
 
 -- ---- `snoop`
 
-pub bridge_own : (k : SnoopNames) (a b d : Seen) {c : Settings} {budget : Budget} {r : Result Crossed RunFault} → Reads k.config a b → Bridges k.ins k.outs budget c b d r → TouchesOwn (Snoop k) a d
-bridge_own k a b d reads bridges = own_then (Snoop k) a b d (own_input (Snoop k) k.config a b (inl refl) reads)
+pub bridge_own : (k : SnoopNames) (a b d : Seen) {c : Settings} {budget : Budget} {r : Result Crossed RunFault} → Uses (Only k.config) Nothing Said a b → Bridges k.ins k.outs budget c b d r → TouchesOwn (Snoop k) a d
+bridge_own k a b d read bridges = own_then (Snoop k) a b d (own_input (Snoop k) k.config a b (inl refl) read)
     (own_wider (Snoop k) _ _ b d (λ m x. x) (λ m x. elim x [ inl i ↦ inl (inr i) | inr o ↦ inr o ]) bridges.uses.touches)
 
 -- ---- `live`
 
-module _ (words : List (String Global)) (live : is_live words ≡ true) (old m s : Seen) (reads : Reads (live_of words).config old m) {r : Result ℕ Failed} (o : OpensIn {E = Failed} (live_of words).stream m s r) where
+module _ (words : List (String Global)) (live : is_live words ≡ true) (old m s : Seen) (read : Uses (Only (live_of words).config) Nothing Said old m) {r : Result ℕ Failed} (o : OpensIn {E = Failed} (live_of words).stream m s r) where
   pub stream_own : TouchesOwn (Live (live_of words)) old s
   stream_own =
       let k = Live (live_of words) in
-      own_then k old m s (own_input k (live_of words).config old m (inl refl) reads) (own_input k (live_of words).stream m s (inr (inl refl)) o.reads)
+      own_then k old m s (own_input k (live_of words).config old m (inl refl) read) (own_input k (live_of words).stream m s (inr (inl refl)) (opens_in_uses m s (live_of words).stream r o))
 
   pub recorded_own : (a : Seen) {e : Result Recorded Failed} → RecordedOpened (live_of words) s a e → TouchesOwn (Live (live_of words)) old a
   recorded_own a opened = let k = Live (live_of words) in own_then k old s a stream_own (own_written k s a opened.opens.touches)
 
-pub lived_own : (words : List (String Global)) → is_live words ≡ true → (old m s a b : Seen) (stream : ℕ) (files : Recorded) → Reads (live_of words).config old m → OpensIn {E = Failed} (live_of words).stream m s (Ok stream) → RecordedOpened (live_of words) s a (Ok files) →
+pub lived_own : (words : List (String Global)) → is_live words ≡ true → (old m s a b : Seen) (stream : ℕ) (files : Recorded) → Uses (Only (live_of words).config) Nothing Said old m → OpensIn {E = Failed} (live_of words).stream m s (Ok stream) → RecordedOpened (live_of words) s a (Ok files) → HasWidth (live_of words) files →
     {c : Settings} {budget : Budget} {r : Result Done LiveFault} → LiveRuns c budget stream (record { journal = files.journal; ins = files.ins.items; outs = files.outs.items }) a b r → TouchesOwn (Live (live_of words)) old b
-lived_own words live old m s a b stream files reads o opened runs =
+lived_own words live old m s a b stream files read o opened width runs =
     let k = Live (live_of words) in
-    let written = living.written_among words live a files.journal files.ins.items files.outs.items opened.slots opened.width.0 opened.width.1 in
+    let written = living.written_among words live a files.journal files.ins.items files.outs.items opened.slots width.0 width.1 in
     let is_stream : a.name stream ≡ (live_of words).stream = (opened.opens.touches.slots stream (inl o.opened.0)).name ∙ o.opened.2 in
-    own_then k old a b (recorded_own words live old m s reads o a opened)
+    own_then k old a b (recorded_own words live old m s read o a opened)
     (own_wider k _ _ a b written (λ n x. elim x [ inl w ↦ inr (written n w) | inr e ↦ inl (inr (inl (e ∙ is_stream))) ]) runs.touches)
 
 -- ---- `replay` and `show`
 
-checked : (w : Width) (words : List (String Global)) (m : List ℕ) → Among (ins_of w words ++ (names_of w words).outs) m → Among (inputs (command_of w (names_of w words))) m
-checked widths.One words m x = inr (inr (elim (among_split (ins_of widths.One words) [] m x) [ inl i ↦ i | inr none ↦ absurd none ]))
-checked widths.Two words m x = inr (inr x)
-
-first_two : (w : Width) (words : List (String Global)) (m : List ℕ) → Among ((names_of w words).config ∷ (names_of w words).journal ∷ []) m → Among (inputs (command_of w (names_of w words))) m
-first_two widths.One words m (inl e) = inl e
-first_two widths.One words m (inr (inl e)) = inr (inl e)
-first_two widths.One words m (inr (inr none)) = absurd none
-first_two widths.Two words m (inl e) = inl e
-first_two widths.Two words m (inr (inl e)) = inr (inl e)
-first_two widths.Two words m (inr (inr none)) = absurd none
+own_reads : (w : Width) (words : List (String Global)) (m : List ℕ) → Among (reads_of w (names_of w words)) m → Among (inputs (command_of w (names_of w words))) m
+own_reads widths.One words m x = x
+own_reads widths.Two words m x = x
 
 module _ (w : Width) (words : List (String Global)) where
   abbrev k : Command
   k = command_of w (names_of w words)
 
-  pub given_own : (a b : Seen) → Touches Nothing (Among ((names_of w words).config ∷ (names_of w words).journal ∷ [])) a b → TouchesOwn k a b
-  given_own a b = own_read k _ a b (first_two w words)
+  -- calls that read some of its names
+  read_on : (names : List ℕ → Type 0) (a b : Seen) → ((m : List ℕ) → names m → Among (reads_of w (names_of w words)) m) → Touches Nothing names a b → TouchesOwn k a b
+  read_on names a b are = own_read k names a b (λ m x. own_reads w words m (are m x))
 
-  pub heads_own : (a b : Seen) → Touches Nothing (Among (ins_of w words)) a b → TouchesOwn k a b
-  heads_own a b = own_read k _ a b (λ m x. checked w words m (among_front (ins_of w words) (names_of w words).outs m x))
+  pub given_own : {end : End} (a b : Seen) → Uses (Among ((names_of w words).config ∷ (names_of w words).journal ∷ [])) Nothing end a b → TouchesOwn k a b
+  given_own a b used = read_on _ a b (first_two w words) (used_touches used)
+
+  pub heads_own : {end : End} (a b : Seen) → Uses (Among (ins_of w words)) Nothing end a b → TouchesOwn k a b
+  heads_own a b used = read_on _ a b (λ m x. checked w words m (among_front (ins_of w words) (names_of w words).outs m x)) (used_touches used)
 
   -- behind the captures the outputs were opened
-  pub outs_own : (a b d : Seen) → Touches Nothing (Among (ins_of w words)) a b → Touches Nothing (Among (names_of w words).outs) b d → TouchesOwn k a d
-  outs_own a b d heads outs = own_then k a b d (heads_own a b heads) (own_read k _ b d (λ m x. checked w words m (among_back (ins_of w words) (names_of w words).outs m x)) outs)
+  pub outs_own : {end : End} (a b d : Seen) → Uses (Among (ins_of w words)) Nothing Said a b → Uses (Among (names_of w words).outs) Nothing end b d → TouchesOwn k a d
+  outs_own a b d heads outs = own_then k a b d (heads_own a b heads) (read_on _ b d (λ m x. checked w words m (among_back (ins_of w words) (names_of w words).outs m x)) (used_touches outs))
 
   -- and all of them were checked
-  pub check_own : are_ports w words ≡ true → (b m o z : Seen) (ins : List Input) → AreHeads b m (ins_of w words) ins → Touches Nothing (Among (ins_of w words)) b m → (slots : List ℕ) → Touches Nothing (Among (names_of w words).outs) m o → AreOpenInputs m o (names_of w words).outs slots →
+  pub check_own : are_ports w words ≡ true → (b m o z : Seen) (ins : List Input) → AreHeads b m (ins_of w words) ins → Uses (Among (ins_of w words)) Nothing Said b m → (slots : List ℕ) → Uses (Among (names_of w words).outs) Nothing Said m o → AreOpenInputs m o (names_of w words).outs slots →
       {c : Settings} {left : Budget} {journal : List ℕ} {F : Contents} {r : Result ℕ CheckFault} → Checks (task_of c left ins o journal slots) z F r → TouchesOwn k b z
   check_own run b m o z ins heads read slots opened outs checks = own_then k b o z (outs_own b m o read opened)
-      (own_read k (NameIn o (slots_of ins ++ slots)) o z (λ n at. checked w words n (slots_among w words run o (slots_of ins ++ slots) (all_named w words run b m o ins heads slots opened outs) n at)) checks.touches)
+      (read_on (NameIn o (slots_of ins ++ slots)) o z (λ n at. checked w words n (slots_among w words run o (slots_of ins ++ slots) (all_named w words run b m o ins heads slots (used_touches opened) outs) n at)) checks.touches)
 
 -- ---- words
 

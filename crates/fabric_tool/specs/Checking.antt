@@ -1,8 +1,8 @@
 -- What `replay` and `show` find: a journal, and outputs, checked against captures.
-use Rattle.std.specs.Prelude.{◌≡◌, ℕ, ◌+◌, ◌-◌, ◌*◌, ◌≤◌, ◌<◌, ◌⊎◌, IsTrue, List, [], ◌∷◌, ◌++◌, length, get_or, Some, Ok, Err, Result, IfOk, IfErr, OnOk, OnErr, Vec}
+use Rattle.std.specs.Prelude.{◌≡◌, ℕ, ◌+◌, ◌-◌, ◌*◌, ◌≤◌, ◌<◌, ◌⊎◌, IsTrue, List, [], ◌∷◌, ◌++◌, length, get_or, Some, Ok, Err, Result, IfOk, IfErr, Vec}
 use Rattle.std.specs.declared.alloc.Global.{Global}
-use Rattle.fab_base.specs.Ending.{end_by, NoFaults, SparesReads}
-use Rattle.fab_base.specs.Seen.{Seen, SameFiles, SameReadFaults, SameWriteFaults, Reads, Touches, Nothing, Rose, bytes_of}
+use Rattle.fab_base.specs.Ending.{Said, Read, end_by, Uses}
+use Rattle.fab_base.specs.Seen.{Seen, SameFiles, Nothing, Only, Rose, bytes_of}
 use Rattle.fab_base.specs.declared.values.Failed.{Failed}
 use Rattle.fab_config.specs.Settings.{Settings}
 use Rattle.pcap_file.specs.Capture.{HEAD}
@@ -120,26 +120,26 @@ IsUnread k old new =
     ⊎ (AnyRose old.read_faults new.read_faults (k.ins ++ k.outs) × Finds k old (λ c budget m. Unit {0}))))
 
 -- How one of them ends but with status 0. No output is opened, and want of memory hides no fault.
-abbrev pub check_end : RunNames → Seen → Seen → Outcome → Ending
-check_end k old new (ends.WrongLine line why) = Untouched (CheckSays k old (ends.WrongLine line why))
-check_end k old new (ends.WrongOutput port at) = Untouched (CheckSays k old (ends.WrongOutput port at))
-check_end k old new (ends.Config fault) = Untouched (CheckSays k old (ends.Config fault))
-check_end k old new (ends.Capture port at why) = Untouched (CheckSays k old (ends.Capture port at why))
-check_end k old new (ends.Limit kind) = Untouched (CheckSays k old (ends.Limit kind))
-check_end k old new ends.ReadFault = Unread (IsUnread k old new)
-check_end k old new ends.Memory = Untouched (Unit {0})
-check_end k old new _ = Never
+abbrev pub check_ending : RunNames → Seen → Seen → Outcome → Ending
+check_ending k old new (ends.WrongLine line why) = Untouched (CheckSays k old (ends.WrongLine line why))
+check_ending k old new (ends.WrongOutput port at) = Untouched (CheckSays k old (ends.WrongOutput port at))
+check_ending k old new (ends.Config fault) = Untouched (CheckSays k old (ends.Config fault))
+check_ending k old new (ends.Capture port at why) = Untouched (CheckSays k old (ends.Capture port at why))
+check_ending k old new (ends.Limit kind) = Untouched (CheckSays k old (ends.Limit kind))
+check_ending k old new ends.ReadFault = Unread (IsUnread k old new)
+check_ending k old new ends.Memory = Untouched (Unit {0})
+check_ending k old new _ = Never
 
 -- how `replay` ends
-abbrev pub replay_end : RunNames → Seen → Seen → Outcome → Ending
-replay_end k old new (ends.Legal entries) = Untouched (CheckSays k old (ends.Legal entries))
-replay_end k old new o = check_end k old new o
+abbrev pub replay_ending : RunNames → Seen → Seen → Outcome → Ending
+replay_ending k old new (ends.Legal entries) = Untouched (CheckSays k old (ends.Legal entries))
+replay_ending k old new o = check_ending k old new o
 
 -- how `show` ends, which has no outputs
-abbrev pub show_end : RunNames → Seen → Seen → Outcome → Ending
-show_end k old new (ends.Shown text) = Untouched (CheckSays k old (ends.Shown text))
-show_end k old new (ends.WrongOutput port at) = Untouched ⊥
-show_end k old new o = check_end k old new o
+abbrev pub show_ending : RunNames → Seen → Seen → Outcome → Ending
+show_ending k old new (ends.Shown text) = Untouched (CheckSays k old (ends.Shown text))
+show_ending k old new (ends.WrongOutput port at) = Untouched ⊥
+show_ending k old new o = check_ending k old new o
 
 -- ---- by status
 
@@ -181,7 +181,7 @@ abbrev pub replay_meaning : RunNames → Meaning
 replay_meaning k = record {
   reads = reads_of widths.Two k;
   writes = [];
-  end = replay_end k;
+  end = replay_ending k;
   Done = λ old new before after. IsTrue old.told → ReplayEnded k old new before after;
   Front = SameFiles;
   Forms = λ d. IsTrue d.told × (entries : ℕ) × CheckSays k d (ends.Legal entries);
@@ -192,7 +192,7 @@ abbrev pub show_meaning : RunNames → Meaning
 show_meaning k = record {
   reads = reads_of widths.One k;
   writes = [];
-  end = show_end k;
+  end = show_ending k;
   Done = λ old new before after. IsTrue old.told → ShowEnded k old new before after;
   Front = SameFiles;
   Forms = λ d. IsTrue d.told × (text : List ℕ) × CheckSays k d (ends.Shown text);
@@ -217,19 +217,18 @@ unread_by (wholes.Read failed) = ends.ReadFault
 unread_by wholes.Memory = ends.Memory
 
 -- what an outcome says of reading a journal
-abbrev pub JournalEnds : List ℕ → ℕ → Seen → Seen → Outcome → Type 0
-JournalEnds name limit old new (ends.Limit kind) = (kind ≡ kinds.Bytes) × (IsTrue old.told → (l : List ℕ) × (old.file name ≡ Some l) × (limit < length l))
-JournalEnds name limit old new ends.ReadFault = Rose (old.read_faults name) (new.read_faults name)
-JournalEnds name limit old new ends.Memory = Unit {0}
-JournalEnds name limit old new _ = ⊥
+abbrev pub JournalEnds : List ℕ → ℕ → Seen → Outcome → Type 0
+JournalEnds name limit old (ends.Limit kind) = (kind ≡ kinds.Bytes) × (IsTrue old.told → (l : List ℕ) × (old.file name ≡ Some l) × (limit < length l))
+JournalEnds name limit old ends.ReadFault = Unit {0}
+JournalEnds name limit old ends.Memory = Unit {0}
+JournalEnds name limit old _ = ⊥
 
 -- a journal under a name, within a limit of bytes
 pub record JournalRead (name : List ℕ) (limit : ℕ) (old new : Seen) (result : Result (Vec ℕ Global) Outcome) : Type 0 where
-  pub reads : Reads name old new
+  pub uses : Uses (Only name) Nothing (end_by outcome_end result) old new
   pub ok : IsTrue old.told → IfOk result (λ v. old.file name ≡ Some v.items)
   pub within : IfOk result (λ v. length v.items ≤ limit)
-  pub ended : IfErr result (JournalEnds name limit old new)
-  pub counts : SparesReads (end_by outcome_end result) old new
+  pub ended : IfErr result (JournalEnds name limit old)
 
 -- slots that are open inputs of these names, of which nothing is given yet
 abbrev pub AreOpenInputs : Seen → Seen → List (List ℕ) → List ℕ → Type 0
@@ -240,11 +239,8 @@ AreOpenInputs old d (name ∷ names) (s ∷ slots) = (IsTrue (d.input s) × (d.n
 
 -- the outputs of `replay`, opened to be read
 pub record OutputsRead {T : Type 0} (items : T → List ℕ) (k : RunNames) (old new : Seen) (result : Result T Failed) : Type 0 where
-  pub touches : Touches Nothing (Among k.outs) old new
+  pub uses : Uses (Among k.outs) Nothing (end_by (λ e. Read) result) old new
   pub slots : IfOk result (λ o. AreOpenInputs old new k.outs (items o))
-  pub cause : OnErr result (AnyRose old.read_faults new.read_faults k.outs)
-  pub counts : OnOk result (SameReadFaults old new)
-  pub writes : SameWriteFaults old new
 
 -- what an outcome says of reading the configuration and the journal
 abbrev pub GivenEnds : RunNames → Seen → Seen → Outcome → Type 0
@@ -258,18 +254,15 @@ GivenEnds k old new _ = ⊥
 
 -- what stands when both were read
 pub record HasGiven (k : RunNames) (c : Settings) (journal : List ℕ) (old now : Seen) : Type 0 where
-  pub touches : Touches Nothing (Among (k.config ∷ k.journal ∷ [])) old now
+  pub uses : Uses (Among (k.config ∷ k.journal ∷ [])) Nothing Said old now
   pub config : IsTrue old.told → HasConfig old k.config c
   pub lines : IsTrue old.told → old.file k.journal ≡ Some journal
-  pub counts : NoFaults old now
 
 pub record GivenRead (k : RunNames) (old new : Seen) (result : Result (Settings × Vec ℕ Global) Outcome) : Type 0 where
-  pub touches : Touches Nothing (Among (k.config ∷ k.journal ∷ [])) old new
+  pub uses : Uses (Among (k.config ∷ k.journal ∷ [])) Nothing (end_by outcome_end result) old new
   pub given : IfOk result (λ g. HasGiven k g.0 g.1.items old new)
   pub within : IfOk result (λ g. length g.1.items ≤ MOST_BYTES)
   pub ended : IfErr result (GivenEnds k old new)
-  pub counts : SparesReads (end_by outcome_end result) old new
-  pub writes : SameWriteFaults old new
 
 -- the command by how many names a port has
 abbrev pub command_of : Width → RunNames → Command
@@ -287,8 +280,8 @@ pub record IsStanding (F : Contents) (entries : ℕ) (c : Settings) (budget : Bu
 
 -- how a check ends
 abbrev pub IsChecked : Width → RunNames → Seen → Seen → Result (Contents × ℕ) Outcome → Type 0
-IsChecked width k old new (Ok (F, entries)) = SameFiles old new × (IsTrue old.told → Finds k old (IsStanding F entries)) × NoFaults old new
-IsChecked width k old new (Err outcome) = EndsBy (reads_of width k) [] old new (check_end k old new outcome)
+IsChecked width k old new (Ok (F, entries)) = Uses (Among (reads_of width k)) Nothing Said old new × (IsTrue old.told → Finds k old (IsStanding F entries))
+IsChecked width k old new (Err outcome) = EndsBy (reads_of width k) [] old new (check_ending k old new outcome)
 
 -- what is told of a fabric that stands for a journal, or want of memory
 abbrev pub Tells : Contents → ℕ → Outcome → Type 0

@@ -35,14 +35,14 @@ HasEnodeFront k old new = IsFront (task_of k) old new
 -- What holds where `enode` ends so. The output is opened only behind the whole input and all that is sent for it, and the line of a
 -- phase takes no memory. What is said of bytes needs a depot that tells them. No fault of the depot is passed over: where it isn't
 -- told, no count of such faults has changed.
-abbrev pub enode_end : EnodeNames → Seen → Seen → Outcome → Ending
-enode_end k old new (ends.Stood last) = Leaves (HasPlayed k old new last)
-enode_end k old new (ends.Capture port at why) = Untouched (IsUntaken k.start k.from LIMITS old (gather.Capture port at why))
-enode_end k old new (ends.Limit kind) = Untouched (IsUntaken k.start k.from LIMITS old (gather.Limit kind))
-enode_end k old new ends.ReadFault = Unread (Unit {0})
-enode_end k old new ends.WriteFault = Unwritten (HasEnodeFront k old new)
-enode_end k old new ends.Memory = Untouched (Unit {0})
-enode_end k old new _ = Never
+abbrev pub enode_ending : EnodeNames → Seen → Seen → Outcome → Ending
+enode_ending k old new (ends.Stood last) = Leaves (HasPlayed k old new last)
+enode_ending k old new (ends.Capture port at why) = Untouched (IsUntaken k.start k.from LIMITS old (gather.Capture port at why))
+enode_ending k old new (ends.Limit kind) = Untouched (IsUntaken k.start k.from LIMITS old (gather.Limit kind))
+enode_ending k old new ends.ReadFault = Unread (Unit {0})
+enode_ending k old new ends.WriteFault = Unwritten (HasEnodeFront k old new)
+enode_ending k old new ends.Memory = Untouched (Unit {0})
+enode_ending k old new _ = Never
 
 -- ---- by status
 
@@ -85,7 +85,7 @@ abbrev pub enode_meaning : EnodeNames → Meaning
 enode_meaning k = record {
   reads = k.from ∷ [];
   writes = k.to ∷ [];
-  end = enode_end k;
+  end = enode_ending k;
   Done = λ old new before after. IsTrue old.told → EnodeEnded k old new before after;
   Front = HasEnodeFront k;
   Forms = EnodeForms k;

@@ -128,16 +128,16 @@ IsLiveRefused k old new = SameFiles old new ⊎ (HasHalted k IsBegun old new ⊎
 
 -- What holds where `live` ends so. What is said of bytes needs a depot that tells them. No fault of the depot is passed over: where it
 -- isn't told, no count of such faults has changed.
-abbrev pub live_end : LiveWords → Seen → Seen → Outcome → Ending
-live_end k old new (ends.Ran frames entries) = Leaves (HasLived k frames entries old new)
-live_end k old new (ends.Config fault) = Untouched (HasFault old k.config fault)
-live_end k old new (ends.BadStream at fault) = Leaves (HasHalted k (IsFaulty at fault) old new)
-live_end k old new (ends.NoPort face) = Leaves (HasHalted k (IsNoPort k face) old new)
-live_end k old new (ends.Limit kind) = Leaves (HasHalted k (IsPast k kind) old new)
-live_end k old new ends.ReadFault = LeavesUnread (IsLiveUnread k old new)
-live_end k old new ends.WriteFault = Unwritten (HasLiveFront k old new)
-live_end k old new ends.Memory = Leaves (IsLiveRefused k old new)
-live_end k old new _ = Never
+abbrev pub live_ending : LiveWords → Seen → Seen → Outcome → Ending
+live_ending k old new (ends.Ran frames entries) = Leaves (HasLived k frames entries old new)
+live_ending k old new (ends.Config fault) = Untouched (HasFault old k.config fault)
+live_ending k old new (ends.BadStream at fault) = Leaves (HasHalted k (IsFaulty at fault) old new)
+live_ending k old new (ends.NoPort face) = Leaves (HasHalted k (IsNoPort k face) old new)
+live_ending k old new (ends.Limit kind) = Leaves (HasHalted k (IsPast k kind) old new)
+live_ending k old new ends.ReadFault = LeavesUnread (IsLiveUnread k old new)
+live_ending k old new ends.WriteFault = Unwritten (HasLiveFront k old new)
+live_ending k old new ends.Memory = Leaves (IsLiveRefused k old new)
+live_ending k old new _ = Never
 
 -- ---- by status
 
@@ -175,7 +175,7 @@ abbrev pub live_meaning : LiveWords → Meaning
 live_meaning k = record {
   reads = k.config ∷ k.stream ∷ [];
   writes = k.journal ∷ by_port k.ins k.outs;
-  end = live_end k;
+  end = live_ending k;
   Done = λ old new before after. IsTrue old.told → LiveEnded k old new before after;
   Front = λ old new. SameFiles old new ⊎ HasLiveFront k old new;
   Forms = LiveForms k;

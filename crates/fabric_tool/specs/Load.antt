@@ -29,11 +29,11 @@ HasLoadFront k old new = (q : ℕ) → q < 9 → IsOldOrFront old new (file_name
 
 -- What holds where `make` ends so. What is said of bytes needs a depot that tells them. No fault of the depot is passed over: where it
 -- isn't told, no count of such faults has changed.
-abbrev pub make_end : MakeNames → Seen → Seen → Outcome → Ending
-make_end k old new (ends.Made frames) = Also (frames ≡ LOAD) (Leaves (HasLoad k new))
-make_end k old new ends.WriteFault = Unwritten (HasLoadFront k old new)
-make_end k old new ends.Memory = Leaves (HasLoadFront k old new)
-make_end k old new _ = Never
+abbrev pub make_ending : MakeNames → Seen → Seen → Outcome → Ending
+make_ending k old new (ends.Made frames) = Also (frames ≡ LOAD) (Leaves (HasLoad k new))
+make_ending k old new ends.WriteFault = Unwritten (HasLoadFront k old new)
+make_ending k old new ends.Memory = Leaves (HasLoadFront k old new)
+make_ending k old new _ = Never
 
 -- ---- by status
 
@@ -46,7 +46,7 @@ abbrev pub make_meaning : MakeNames → Meaning
 make_meaning k = record {
   reads = [];
   writes = k.files;
-  end = make_end k;
+  end = make_ending k;
   Done = λ old new before after. IsTrue old.told → MakeEnded k new before after;
   Front = HasLoadFront k;
   Forms = λ d. Unit {0};

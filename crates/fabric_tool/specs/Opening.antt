@@ -17,27 +17,28 @@ use Rattle.fabric_tool.specs.declared.outcome.Outcome.{Outcome}
 use Rattle.fabric_tool.specs.declared.outcome.Outcome.TheVariants as ends
 use Rattle.fabric_tool.specs.declared.outputs.Outputs.{Outputs}
 
--- the outputs of `run`: the journal, and then those of the ports in their order, up to the first that couldn't be opened
-pub record OutputsOpened (k : RunNames) (old new : Seen) (result : Result Outputs Failed) : Type 0 where
-  pub opens : Opens (k.journal ∷ k.outs) old new
-  pub slots : IfOk result (λ o. AreEmptyOutputs new (k.journal ∷ k.outs) (o.journal ∷ o.outs.items))
-  pub cause : OnErr result (OpenedUpTo (k.journal ∷ k.outs) old new)
+-- Outputs of these names, opened in their order up to the first that couldn't be; these are the slots of what was opened.
+pub record AllOpened {T : Type 0} (slots_of : T → List ℕ) (names : List (List ℕ)) (old new : Seen) (result : Result T Failed) : Type 0 where
+  pub opens : Opens names old new
+  pub slots : IfOk result (λ o. AreEmptyOutputs new names (slots_of o))
+  pub cause : OnErr result (OpenedUpTo names old new)
   pub counts : OnOk result (SameWriteFaults old new)
 
--- the files of `make` in their order, up to the first that couldn't be opened
-pub record FilesOpened (files : List (List ℕ)) (old new : Seen) (result : Result LoadFiles Failed) : Type 0 where
-  pub opens : Opens files old new
-  pub slots : IfOk result (λ o. AreEmptyOutputs new files o.slots.items)
-  pub cause : OnErr result (OpenedUpTo files old new)
-  pub counts : OnOk result (SameWriteFaults old new)
+-- the outputs of `run`: the journal, and then those of the ports in their order
+abbrev pub OutputsOpened : RunNames → Seen → Seen → Result Outputs Failed → Type 0
+OutputsOpened k = AllOpened {T = Outputs} (λ o. o.journal ∷ o.outs.items) (k.journal ∷ k.outs)
 
--- the outputs of `live`: the journal, and then what came and what is sent of each port, up to the first that couldn't be opened
-pub record RecordedOpened (k : LiveWords) (old new : Seen) (result : Result Recorded Failed) : Type 0 where
-  pub opens : Opens (k.journal ∷ by_port k.ins k.outs) old new
-  pub width : IfOk result (λ o. (length o.ins.items ≡ length k.ins) × (length o.outs.items ≡ length k.outs))
-  pub slots : IfOk result (λ o. AreEmptyOutputs new (k.journal ∷ by_port k.ins k.outs) (o.journal ∷ by_port o.ins.items o.outs.items))
-  pub cause : OnErr result (OpenedUpTo (k.journal ∷ by_port k.ins k.outs) old new)
-  pub counts : OnOk result (SameWriteFaults old new)
+-- the files of `make` in their order
+abbrev pub FilesOpened : List (List ℕ) → Seen → Seen → Result LoadFiles Failed → Type 0
+FilesOpened files = AllOpened {T = LoadFiles} (λ o. o.slots.items) files
+
+-- the outputs of `live`: the journal, and then what came and what is sent of each port
+abbrev pub RecordedOpened : LiveWords → Seen → Seen → Result Recorded Failed → Type 0
+RecordedOpened k = AllOpened {T = Recorded} (λ o. o.journal ∷ by_port o.ins.items o.outs.items) (k.journal ∷ by_port k.ins k.outs)
+
+-- two of them for each port
+abbrev pub HasWidth : LiveWords → Recorded → Type 0
+HasWidth k o = (length o.ins.items ≡ length k.ins) × (length o.outs.items ≡ length k.outs)
 
 -- what a fault of the windows ends `run` with
 abbrev pub stopped_by : RunFault → Outcome

@@ -24,24 +24,24 @@ use Rattle.pcapng_file.specs.declared.fault.NgError.TheVariants as ng
 use Rattle.fab_migrate.specs.declared.old.OldError.TheVariants as olds
 
 -- How `convert` ends. The output is opened only behind the whole input.
-abbrev pub convert_end : PairNames → Seen → Seen → Outcome → Ending
-convert_end k old new (ends.Converted records) = Leaves (Converted k.from k.to LIMITS old new records)
-convert_end k old new (ends.BadBlock at fault) = Untouched (SaysInput k.from LIMITS old (ng.Fault at fault))
-convert_end k old new (ends.Limit kind) = Untouched ((limit : NgLimit) × (kind ≡ kind_of limit) × SaysInput k.from LIMITS old (ng.Limit limit))
-convert_end k old new ends.ReadFault = Unread (Unit {0})
-convert_end k old new ends.WriteFault = Unwritten (IsFront k.from k.to LIMITS old new)
-convert_end k old new ends.Memory = Leaves (IsFront k.from k.to LIMITS old new)
-convert_end k old new _ = Never
+abbrev pub convert_ending : PairNames → Seen → Seen → Outcome → Ending
+convert_ending k old new (ends.Converted records) = Leaves (Converted k.from k.to LIMITS old new records)
+convert_ending k old new (ends.BadBlock at fault) = Untouched (SaysInput k.from LIMITS old (ng.Fault at fault))
+convert_ending k old new (ends.Limit kind) = Untouched ((limit : NgLimit) × (kind ≡ kind_of limit) × SaysInput k.from LIMITS old (ng.Limit limit))
+convert_ending k old new ends.ReadFault = Unread (Unit {0})
+convert_ending k old new ends.WriteFault = Unwritten (IsFront k.from k.to LIMITS old new)
+convert_ending k old new ends.Memory = Leaves (IsFront k.from k.to LIMITS old new)
+convert_ending k old new _ = Never
 
 -- How `migrate` ends. The output is opened only behind the whole journal.
-abbrev pub migrate_end : PairNames → Seen → Seen → Outcome → Ending
-migrate_end k old new (ends.Migrated entries) = Leaves (Migrated k.from k.to MOST_BYTES old new entries)
-migrate_end k old new (ends.BadLine line fault) = Untouched (SaysOld k.from MOST_BYTES old (olds.Fault line fault))
-migrate_end k old new (ends.Limit kind) = Also (kind ≡ kinds.Bytes) (Untouched (SaysOld k.from MOST_BYTES old olds.Bytes))
-migrate_end k old new ends.ReadFault = Unread (Unit {0})
-migrate_end k old new ends.WriteFault = Unwritten (IsNewFront k.from k.to MOST_BYTES old new)
-migrate_end k old new ends.Memory = Leaves (IsNewFront k.from k.to MOST_BYTES old new)
-migrate_end k old new _ = Never
+abbrev pub migrate_ending : PairNames → Seen → Seen → Outcome → Ending
+migrate_ending k old new (ends.Migrated entries) = Leaves (Migrated k.from k.to MOST_BYTES old new entries)
+migrate_ending k old new (ends.BadLine line fault) = Untouched (SaysOld k.from MOST_BYTES old (olds.Fault line fault))
+migrate_ending k old new (ends.Limit kind) = Also (kind ≡ kinds.Bytes) (Untouched (SaysOld k.from MOST_BYTES old olds.Bytes))
+migrate_ending k old new ends.ReadFault = Unread (Unit {0})
+migrate_ending k old new ends.WriteFault = Unwritten (IsNewFront k.from k.to MOST_BYTES old new)
+migrate_ending k old new ends.Memory = Leaves (IsNewFront k.from k.to MOST_BYTES old new)
+migrate_ending k old new _ = Never
 
 -- ---- by status
 
@@ -95,7 +95,7 @@ abbrev pub convert_meaning : PairNames → Meaning
 convert_meaning k = record {
   reads = k.from ∷ [];
   writes = k.to ∷ [];
-  end = convert_end k;
+  end = convert_ending k;
   Done = λ old new before after. IsTrue old.told → ConvertEnded k old new before after;
   Front = IsFront k.from k.to LIMITS;
   Forms = ConvertForms k;
@@ -106,7 +106,7 @@ abbrev pub migrate_meaning : PairNames → Meaning
 migrate_meaning k = record {
   reads = k.from ∷ [];
   writes = k.to ∷ [];
-  end = migrate_end k;
+  end = migrate_ending k;
   Done = λ old new before after. IsTrue old.told → MigrateEnded k old new before after;
   Front = IsNewFront k.from k.to MOST_BYTES;
   Forms = MigrateForms k;

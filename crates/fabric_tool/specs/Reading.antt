@@ -1,8 +1,8 @@
 -- What reading an input answers.
-use Rattle.std.specs.Prelude.{◌≡◌, ℕ, ◌+◌, ◌*◌, ◌<◌, ◌≤◌, ◌⊎◌, IsTrue, List, [], ◌∷◌, length, Ok, Err, Result, IfOk, IfErr, IsErrOf, Vec}
+use Rattle.std.specs.Prelude.{◌≡◌, ℕ, ◌+◌, ◌*◌, ◌<◌, ◌≤◌, ◌⊎◌, IsTrue, List, [], ◌∷◌, length, Ok, Err, Result, IfOk, IfErr, Vec}
 use Rattle.std.specs.declared.alloc.Global.{Global}
-use Rattle.fab_base.specs.Ending.{end_by, SparesReads}
-use Rattle.fab_base.specs.Seen.{Seen, Reads, Rose, Touches, Nothing, SameWriteFaults}
+use Rattle.fab_base.specs.Ending.{end_by, Uses}
+use Rattle.fab_base.specs.Seen.{Seen, Nothing, Only}
 use Rattle.fab_config.specs.Settings.{Settings}
 use Rattle.fab_config.specs.Text.{decoded}
 use Rattle.fab_config.specs.declared.ConfigFault.{ConfigFault}
@@ -20,7 +20,7 @@ use Rattle.pcap_file.specs.declared.fault.LimitKind.TheVariants as kinds
 use Rattle.fab_migrate.specs.declared.old.OldError.{OldError}
 use Rattle.fab_migrate.specs.declared.old.OldError.TheVariants as olds
 use Rattle.run_files.specs.Faults.{fault_from}
-use Rattle.run_files.specs.Names.{AnyRose, Among}
+use Rattle.run_files.specs.Names.{Among}
 use Rattle.fabric_tool.specs.Inputs.{HasConfig, HasFault, IsOpened, HasNoHead, IsFirstWithout, HaveNoRoom, IsFirstUnread}
 use Rattle.fabric_tool.specs.Opening.{stopped_by}
 use Rattle.fabric_tool.specs.Outcome.{kind_of, outcome_end}
@@ -40,21 +40,17 @@ misread_by errors.Memory = ends.Memory
 
 -- a configuration that is left of a slot
 pub record TextRead (s : ℕ) (old new : Seen) (result : Result Settings Outcome) : Type 0 where
-  pub reads : Reads (old.name s) old new
+  pub uses : Uses (Only (old.name s)) Nothing (end_by outcome_end result) old new
   pub ok : IsTrue old.told → IfOk result (λ c. decoded (old.left s) ≡ Ok c)
   pub fault : IsTrue old.told → IfErr result (λ o. (f : ConfigFault) → o ≡ ends.Config f → decoded (old.left s) ≡ Err f)
-  pub cause : IsErrOf result ends.ReadFault → Rose (old.read_faults (old.name s)) (new.read_faults (old.name s))
   pub only : IfErr result IsConfigEnd
-  pub counts : SparesReads (end_by outcome_end result) old new
 
 -- a configuration under a name
 pub record ConfigRead (name : List ℕ) (old new : Seen) (result : Result Settings Outcome) : Type 0 where
-  pub reads : Reads name old new
+  pub uses : Uses (Only name) Nothing (end_by outcome_end result) old new
   pub ok : IsTrue old.told → IfOk result (λ c. HasConfig old name c)
   pub fault : IsTrue old.told → IfErr result (λ o. (f : ConfigFault) → o ≡ ends.Config f → HasFault old name f)
-  pub cause : IsErrOf result ends.ReadFault → Rose (old.read_faults name) (new.read_faults name)
   pub only : IfErr result IsConfigEnd
-  pub counts : SparesReads (end_by outcome_end result) old new
 
 -- ---- the heads of captures
 
@@ -70,19 +66,18 @@ pub record IsHead (old d : Seen) (name : List ℕ) (i : Input) : Type 0 where
   pub opened : IsTrue old.told → IsOpened old name (opened_by d i.slot i.reader)
 
 -- what an outcome says of reading the head of a port's capture within so many bytes
-abbrev pub HeadEnds : ℕ → List ℕ → ℕ → Seen → Seen → Outcome → Type 0
-HeadEnds port name bytes old new (ends.Capture p at reason) = (p ≡ port) × (at ≡ 0) × (HEAD ≤ bytes) × (IsTrue old.told → HasNoHead old name reason)
-HeadEnds port name bytes old new (ends.Limit kind) = (kind ≡ kinds.Bytes) × (bytes < HEAD)
-HeadEnds port name bytes old new ends.ReadFault = Rose (old.read_faults name) (new.read_faults name)
-HeadEnds port name bytes old new _ = ⊥
+abbrev pub HeadEnds : ℕ → List ℕ → ℕ → Seen → Outcome → Type 0
+HeadEnds port name bytes old (ends.Capture p at reason) = (p ≡ port) × (at ≡ 0) × (HEAD ≤ bytes) × (IsTrue old.told → HasNoHead old name reason)
+HeadEnds port name bytes old (ends.Limit kind) = (kind ≡ kinds.Bytes) × (bytes < HEAD)
+HeadEnds port name bytes old ends.ReadFault = Unit {0}
+HeadEnds port name bytes old _ = ⊥
 
 -- the head of a port's capture
 pub record HeadRead (port : ℕ) (name : List ℕ) (old new : Seen) (had left : Budget) (result : Result Input Outcome) : Type 0 where
-  pub reads : Reads name old new
+  pub uses : Uses (Only name) Nothing (end_by outcome_end result) old new
   pub head : IfOk result (λ i. IsHead old new name i)
   pub taken : IfOk result (λ i. (left.bytes + HEAD ≡ had.bytes) × (left.frames ≡ had.frames))
-  pub ended : IfErr result (HeadEnds port name had.bytes old new)
-  pub counts : SparesReads (end_by outcome_end result) old new
+  pub ended : IfErr result (HeadEnds port name had.bytes old)
 
 -- ---- the heads of all captures
 
@@ -97,18 +92,16 @@ AreHeads old d (name ∷ names) (i ∷ ins) = IsHead old d name i × AreHeads ol
 abbrev pub HeadsEnd : List (List ℕ) → ℕ → Seen → Seen → Outcome → Type 0
 HeadsEnd names bytes old new (ends.Capture port at reason) = (at ≡ 0) × (HEAD * port ≤ bytes) × (IsTrue old.told → IsFirstWithout names old port reason)
 HeadsEnd names bytes old new (ends.Limit kind) = (kind ≡ kinds.Bytes) × (bytes < HEAD * length names) × (IsTrue old.told → HaveNoRoom names old bytes)
-HeadsEnd names bytes old new ends.ReadFault = AnyRose old.read_faults new.read_faults names × (IsTrue old.told → IsFirstUnread names old new bytes)
+HeadsEnd names bytes old new ends.ReadFault = IsTrue old.told → IsFirstUnread names old new bytes
 HeadsEnd names bytes old new ends.Memory = Unit {0}
 HeadsEnd names bytes old new _ = ⊥
 
 -- the heads of the captures under these names, in their order
 pub record HeadsRead (names : List (List ℕ)) (old new : Seen) (had left : Budget) (result : Result (Vec Input Global) Outcome) : Type 0 where
-  pub touches : Touches Nothing (Among names) old new
+  pub uses : Uses (Among names) Nothing (end_by outcome_end result) old new
   pub heads : IfOk result (λ v. AreHeads old new names v.items)
   pub taken : IfOk result (λ v. (left.bytes + HEAD * length names ≡ had.bytes) × (left.frames ≡ had.frames))
   pub ended : IfErr result (HeadsEnd names had.bytes old new)
-  pub counts : SparesReads (end_by outcome_end result) old new
-  pub writes : SameWriteFaults old new
 
 -- ---- a pcapng file
 

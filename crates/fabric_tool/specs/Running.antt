@@ -22,15 +22,15 @@ IsCaptureRefused k port at why old new =
     (SameFiles old new × (at ≡ 0) × HasBadHead k old port why) ⊎ HasStopped k (faults.Capture port at why) old new
 
 -- how `run` ends
-abbrev pub run_end : RunNames → Seen → Seen → Outcome → Ending
-run_end k old new (ends.Ran frames entries) = Leaves (HasRun k frames entries old new)
-run_end k old new (ends.Config fault) = Untouched (HasFault old k.config fault)
-run_end k old new (ends.Capture port at why) = Leaves (IsCaptureRefused k port at why old new)
-run_end k old new (ends.Limit kind) = Leaves (HasStopped k (faults.Limit kind) old new)
-run_end k old new ends.ReadFault = LeavesUnread (IsRunUnread k old new)
-run_end k old new ends.WriteFault = LeavesUnwritten (SameFiles old new ⊎ HasFrontPart k old new)
-run_end k old new ends.Memory = Leaves (SameFiles old new ⊎ HasFrontPart k old new)
-run_end k old new _ = Never
+abbrev pub run_ending : RunNames → Seen → Seen → Outcome → Ending
+run_ending k old new (ends.Ran frames entries) = Leaves (HasRun k frames entries old new)
+run_ending k old new (ends.Config fault) = Untouched (HasFault old k.config fault)
+run_ending k old new (ends.Capture port at why) = Leaves (IsCaptureRefused k port at why old new)
+run_ending k old new (ends.Limit kind) = Leaves (HasStopped k (faults.Limit kind) old new)
+run_ending k old new ends.ReadFault = LeavesUnread (IsRunUnread k old new)
+run_ending k old new ends.WriteFault = LeavesUnwritten (SameFiles old new ⊎ HasFrontPart k old new)
+run_ending k old new ends.Memory = Leaves (SameFiles old new ⊎ HasFrontPart k old new)
+run_ending k old new _ = Never
 
 -- ---- by status
 
@@ -62,7 +62,7 @@ abbrev pub run_meaning : RunNames → Meaning
 run_meaning k = record {
   reads = k.config ∷ k.ins;
   writes = k.journal ∷ k.outs;
-  end = run_end k;
+  end = run_ending k;
   Done = λ old new before after. IsTrue old.told → RunEnded k old new before after;
   Front = λ old new. SameFiles old new ⊎ HasFrontPart k old new;
   Forms = RunForms k;

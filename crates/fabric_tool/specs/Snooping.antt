@@ -90,15 +90,15 @@ IsSnoopUnread k old new = Rose (old.read_faults k.config) (new.read_faults k.con
 
 -- What holds where `snoop` ends so. The outputs are opened only behind the whole inputs. What is said of bytes needs a depot that
 -- tells them. No fault of the depot is passed over: where it isn't told, no count of such faults has changed.
-abbrev pub snoop_end : SnoopNames → Seen → Seen → Outcome → Ending
-snoop_end k old new (ends.Bridged passes drops) = Leaves (HasSnooped k passes drops old new)
-snoop_end k old new (ends.Config fault) = Untouched (HasFault old k.config fault)
-snoop_end k old new (ends.Capture port at why) = Untouched (IsSnoopStopped k old (gather.Capture port at why))
-snoop_end k old new (ends.Limit kind) = Untouched (IsSnoopStopped k old (gather.Limit kind))
-snoop_end k old new ends.ReadFault = Unread (IsSnoopUnread k old new)
-snoop_end k old new ends.WriteFault = Unwritten (HasSnoopedFront k old new)
-snoop_end k old new ends.Memory = Leaves (SameFiles old new ⊎ HasSnoopedFront k old new)
-snoop_end k old new _ = Never
+abbrev pub snoop_ending : SnoopNames → Seen → Seen → Outcome → Ending
+snoop_ending k old new (ends.Bridged passes drops) = Leaves (HasSnooped k passes drops old new)
+snoop_ending k old new (ends.Config fault) = Untouched (HasFault old k.config fault)
+snoop_ending k old new (ends.Capture port at why) = Untouched (IsSnoopStopped k old (gather.Capture port at why))
+snoop_ending k old new (ends.Limit kind) = Untouched (IsSnoopStopped k old (gather.Limit kind))
+snoop_ending k old new ends.ReadFault = Unread (IsSnoopUnread k old new)
+snoop_ending k old new ends.WriteFault = Unwritten (HasSnoopedFront k old new)
+snoop_ending k old new ends.Memory = Leaves (SameFiles old new ⊎ HasSnoopedFront k old new)
+snoop_ending k old new _ = Never
 
 -- ---- by status
 
@@ -146,7 +146,7 @@ abbrev pub snoop_meaning : SnoopNames → Meaning
 snoop_meaning k = record {
   reads = k.config ∷ k.ins;
   writes = k.outs;
-  end = snoop_end k;
+  end = snoop_ending k;
   Done = λ old new before after. IsTrue old.told → SnoopEnded k old new before after;
   Front = HasSnoopFront k;
   Forms = SnoopForms k;

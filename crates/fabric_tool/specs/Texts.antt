@@ -14,13 +14,13 @@ abbrev pub IsUntouched : Seen → Seen → Type 0
 IsUntouched old new = SameFiles old new × SameSlots old new × NoFaults old new
 
 -- how each ends
-abbrev pub help_end : Seen → Seen → Outcome → Ending
-help_end old new ends.Help = Also (SameSlots old new) (Untouched (Unit {0}))
-help_end old new _ = Never
+abbrev pub help_ending : Seen → Seen → Outcome → Ending
+help_ending old new ends.Help = Also (SameSlots old new) (Untouched (Unit {0}))
+help_ending old new _ = Never
 
-abbrev pub version_end : Seen → Seen → Outcome → Ending
-version_end old new ends.Version = Also (SameSlots old new) (Untouched (Unit {0}))
-version_end old new _ = Never
+abbrev pub version_ending : Seen → Seen → Outcome → Ending
+version_ending old new ends.Version = Also (SameSlots old new) (Untouched (Unit {0}))
+version_ending old new _ = Never
 
 -- Status 0 of a command that prints a text: nothing was asked of the depot, and the text was printed.
 pub record TextEnded (text : List ℕ) (old new : Seen) (before after : Sunk) : Type 0 where
@@ -39,7 +39,7 @@ text_meaning outcome text end = record {
 }
 
 abbrev pub help_meaning : Meaning
-help_meaning = text_meaning ends.Help help_text help_end
+help_meaning = text_meaning ends.Help help_text help_ending
 
 abbrev pub version_meaning : Meaning
-version_meaning = text_meaning ends.Version version_text version_end
+version_meaning = text_meaning ends.Version version_text version_ending

@@ -29,10 +29,7 @@ pub(crate) fn heads_of<D: Depot>(
     let mut ins = Vec::new(alloc);
     for port in 0..count_of(words, width) {
         let name = input_of(words, width, port);
-        let input = match head_of(depot, PortNo::at(port), name, budget) {
-            Ok(input) => input,
-            Err(outcome) => return Err(outcome),
-        };
+        let input = head_of(depot, PortNo::at(port), name, budget)?;
         match ins.push(input) {
             Ok(()) => {}
             Err(_) => return Err(Outcome::Memory),

@@ -1,8 +1,8 @@
 //! The command `live`.
-ghost use Rattle.std.specs.Prelude.{◌≡◌, true};
+ghost use Rattle.std.specs.Prelude.{◌≡◌, IfOk, true};
 ghost use Rattle.fabric_tool.specs.Command as spec;
 ghost use Rattle.fabric_tool.specs.Ends.{Holds, TouchesOwn};
-ghost use Rattle.fabric_tool.specs.Opening.{RecordedOpened, lived_by};
+ghost use Rattle.fabric_tool.specs.Opening.{HasWidth, RecordedOpened, lived_by};
 ghost use Rattle.fabric_tool.specs.Preparing.{IsLivePrepared};
 
 use crate::command::{came_at, live_count, sent_at};
@@ -79,10 +79,7 @@ fn fabric_of<D: Depot>(alloc: Global, words: &[String], depot: &mut D) -> Result
     ensures prepares { IsLivePrepared (spec.live_of words.now) (D.seen depot.old)
         (D.seen depot.new) result }
 {
-    let config = match config_of(alloc, depot, word_at(words, 1)) {
-        Ok(config) => config,
-        Err(outcome) => return Err(outcome),
-    };
+    let config = config_of(alloc, depot, word_at(words, 1))?;
     // For the proof: the values of the configuration are in their ranges.
     in_range(&config);
     match Fabric::new(alloc, config, live_count(words) as u32) {
@@ -98,22 +95,16 @@ fn open_recorded<D: Depot>(depot: &mut D, words: &[String]) -> Result<Recorded, 
     requires known { spec.AllKnown (D.seen depot.old) words.now }
     ensures opens { RecordedOpened (spec.live_of words.now) (D.seen depot.old) (D.seen depot.new)
         result }
+    ensures width { IfOk result (λ o. HasWidth (spec.live_of words.now) o) }
 {
-    let journal = match depot.open_out(word_at(words, 2)) {
-        Ok(slot) => slot,
-        Err(failed) => return Err(failed),
-    };
+    let journal = depot.open_out(word_at(words, 2))?;
     let mut ins = ArrayVec::new();
     let mut outs = ArrayVec::new();
     for port in 0..live_count(words) {
-        match depot.open_out(came_at(words, port)) {
-            Ok(slot) => add_slot(&mut ins, slot),
-            Err(failed) => return Err(failed),
-        }
-        match depot.open_out(sent_at(words, port)) {
-            Ok(slot) => add_slot(&mut outs, slot),
-            Err(failed) => return Err(failed),
-        }
+        let came = depot.open_out(came_at(words, port))?;
+        add_slot(&mut ins, came);
+        let sent = depot.open_out(sent_at(words, port))?;
+        add_slot(&mut outs, sent);
     }
     Ok(Recorded { journal, ins, outs })
 }

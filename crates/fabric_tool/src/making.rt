@@ -50,10 +50,8 @@ fn open_files<D: Depot>(depot: &mut D, words: &[String]) -> Result<LoadFiles, Fa
 {
     let mut slots = ArrayVec::new();
     for place in 0..FILES {
-        match depot.open_out(file_at(words, place)) {
-            Ok(slot) => add_slot(&mut slots, slot),
-            Err(failed) => return Err(failed),
-        }
+        let slot = depot.open_out(file_at(words, place))?;
+        add_slot(&mut slots, slot);
     }
     Ok(LoadFiles { slots })
 }

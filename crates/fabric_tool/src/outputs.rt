@@ -23,16 +23,11 @@ pub(crate) fn open_outputs<D: Depot>(depot: &mut D, words: &[String]) -> Result<
     ensures opens { OutputsOpened (spec.run_of words.now) (D.seen depot.old) (D.seen depot.new)
         result }
 {
-    let journal = match depot.open_out(word_at(words, 2)) {
-        Ok(slot) => slot,
-        Err(failed) => return Err(failed),
-    };
+    let journal = depot.open_out(word_at(words, 2))?;
     let mut outs = ArrayVec::new();
     for port in 0..port_count(words) {
-        match depot.open_out(output_at(words, port)) {
-            Ok(slot) => add_slot(&mut outs, slot),
-            Err(failed) => return Err(failed),
-        }
+        let slot = depot.open_out(output_at(words, port))?;
+        add_slot(&mut outs, slot);
     }
     Ok(Outputs { journal, outs })
 }

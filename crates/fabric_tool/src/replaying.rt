@@ -80,10 +80,7 @@ fn check_files<D: Depot>(
     ensures touches { TouchesOwn (command_of width (spec.names_of width words.now))
         (D.seen depot.old) (D.seen depot.new) }
 {
-    let (config, journal) = match config_and_journal(alloc, depot, words, width) {
-        Ok(read) => read,
-        Err(outcome) => return Err(outcome),
-    };
+    let (config, journal) = config_and_journal(alloc, depot, words, width)?;
     check(alloc, words, depot, width, config, &journal)
 }
 
@@ -99,14 +96,9 @@ fn config_and_journal<D: Depot>(
     ensures reads { GivenRead (spec.names_of width words.now) (D.seen depot.old)
         (D.seen depot.new) result }
 {
-    let config = match config_of(alloc, depot, word_at(words, 1)) {
-        Ok(config) => config,
-        Err(outcome) => return Err(outcome),
-    };
-    match journal_of(alloc, depot, word_at(words, 2), MOST_BYTES) {
-        Ok(journal) => Ok((config, journal)),
-        Err(outcome) => Err(outcome),
-    }
+    let config = config_of(alloc, depot, word_at(words, 1))?;
+    let journal = journal_of(alloc, depot, word_at(words, 2), MOST_BYTES)?;
+    Ok((config, journal))
 }
 
 // Checks a journal that was read. Its bytes and those of the captures are within one limit.
@@ -131,10 +123,7 @@ fn check<D: Depot>(
         bytes: MOST_BYTES - journal.len() as u64,
         frames: MOST_FRAMES,
     };
-    let mut ins = match heads_of(alloc, depot, words, width, &mut budget) {
-        Ok(ins) => ins,
-        Err(outcome) => return Err(outcome),
-    };
+    let mut ins = heads_of(alloc, depot, words, width, &mut budget)?;
     let outs = match outs_of(depot, words, width) {
         Ok(outs) => outs,
         Err(_) => return Err(Outcome::ReadFault),
@@ -216,10 +205,8 @@ fn open_each<D: Depot>(depot: &mut D, words: &[String]) -> Result<ArrayVec<u32, 
 {
     let mut outs = ArrayVec::new();
     for port in 0..port_count(words) {
-        match depot.open_in(output_at(words, port)) {
-            Ok(slot) => add_slot(&mut outs, slot),
-            Err(failed) => return Err(failed),
-        }
+        let slot = depot.open_in(output_at(words, port))?;
+        add_slot(&mut outs, slot);
     }
     Ok(outs)
 }

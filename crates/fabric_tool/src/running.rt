@@ -88,18 +88,12 @@ fn prepare<D: Depot>(alloc: Global, words: &[String], depot: &mut D) -> Result<P
     ensures prepares { IsPrepared (spec.run_of words.now) (D.seen depot.old) (D.seen depot.new)
         result }
 {
-    let config = match config_of(alloc, depot, word_at(words, 1)) {
-        Ok(config) => config,
-        Err(outcome) => return Err(outcome),
-    };
+    let config = config_of(alloc, depot, word_at(words, 1))?;
     let mut budget = Budget {
         bytes: MOST_BYTES,
         frames: MOST_FRAMES,
     };
-    let ins = match heads_of(alloc, depot, words, Width::Two, &mut budget) {
-        Ok(ins) => ins,
-        Err(outcome) => return Err(outcome),
-    };
+    let ins = heads_of(alloc, depot, words, Width::Two, &mut budget)?;
     // For the proof: the values of the configuration are in their ranges.
     in_range(&config);
     match Fabric::new(alloc, config, port_count(words) as u32) {

@@ -1,7 +1,10 @@
 use Rattle.std.proofs.Common.{◌∙◌, Err, sym, subst}
 use Rattle.fabric_tool.specs.Reading.{TextRead}
-use Rattle.fabric_tool.proofs.ReadLemmas.{text_value, text_misread}
+use Rattle.fabric_tool.proofs.ReadLemmas.{text_failed, text_value, text_misread}
 use Rattle.fabric_tool.proofs.inputs.config_in.Goals as goal
+
+pub returns-in-Err : goal.returns-in-Err
+returns-in-Err g c = record { reads = text_failed c.args.slot _ _ c.fill.new.into c.in-Err.field-0 c.in-Err.ensures.fills }
 
 pub returns-in-Ok-read_config : goal.returns-in-Ok-read_config
 returns-in-Ok-read_config g c = record { reads = text_value c.args.slot _ _ c.fill.new.into c.in-Ok.got c.in-Ok.ensures.fills (c.fill.auto.into ∙ c.requires.room) c.in-Ok-read_config.config c.in-Ok-read_config.ensures }

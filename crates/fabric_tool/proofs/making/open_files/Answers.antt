@@ -1,4 +1,7 @@
 use Rattle.std.proofs.Common.{◌+◌, sym, subst, arith}
+use Rattle.fab_replay.proofs.ResultLemmas.{err_is}
+use Rattle.fabric_tool.specs.Command.{files_of}
+use Rattle.fabric_tool.specs.Opening.{FilesOpened}
 use Rattle.fabric_tool.proofs.MakeLemmas.{file_names, file_more, file_failed, files_count, files_opened}
 use Rattle.run_files.proofs.OpenLemmas.{OpenedSoFar, opened_none}
 use Rattle.fabric_tool.proofs.PortLoops.{out_as}
@@ -21,14 +24,17 @@ loop-place-preserved g c =
     let seen = g.D.Depot.seen in
     subst (λ l. OpenedSoFar (file_names c.args.words.now (c.loop-place.place + 1)) (seen c.args.depot.now) (seen c.open_out.new.self) l) (sym c.add_slot.ensures)
     (file_more c.args.words.now c.requires.make c.loop-place.place c.loop-place-test.true (seen c.args.depot.now) (seen c.loop-place.depot) (seen c.open_out.new.self) c.loop-place.slots.items c.loop-place.invariant
-    c.in-Ok.slot (out_as c.file_at.ensures c.in-Ok.ensures.opens))
+    c.in_ok-slot.slot (out_as c.file_at.ensures c.in_ok-slot.ensures.opens))
 
-pub returns-in-Err : goal.returns-in-Err
-returns-in-Err g c =
+pub returns-in_err-slot : goal.returns-in_err-slot
+returns-in_err-slot g c =
     let seen = g.D.Depot.seen in
+    let a = seen c.args.depot.now in
+    let d = seen c.open_out.new.self in
     record {
-      opens = file_failed c.args.words.now c.requires.make c.loop-place.place c.loop-place-test.true (seen c.args.depot.now) (seen c.loop-place.depot) (seen c.open_out.new.self) c.loop-place.slots.items c.loop-place.invariant
-          c.in-Err.failed (out_as c.file_at.ensures c.in-Err.ensures.opens);
+      opens = subst (FilesOpened (files_of c.args.words.now) a d) (err_is c.from_residual.result _ c.from_residual.ensures.1)
+          (file_failed c.args.words.now c.requires.make c.loop-place.place c.loop-place-test.true a (seen c.loop-place.depot) d c.loop-place.slots.items c.loop-place.invariant
+          c.in_err-slot.field-0.0 (out_as c.file_at.ensures c.in_err-slot.ensures.opens));
     }
 
 pub returns : goal.returns

@@ -1,0 +1,28 @@
+-- What calls leave and count that read files and write none.
+use Rattle.std.proofs.Common.{ℕ, List, IsTrue, sym, subst, inl, inr}
+use Rattle.fab_base.specs.Ending.{End, Either, RoseIn, Uses}
+use Rattle.fab_base.specs.Seen.{Seen, Touches, Nothing, SameFiles}
+use Rattle.fab_base.proofs.EndingLemmas.{none_yet, counts_then}
+use Rattle.fab_base.proofs.SeenLemmas.{touches_wider}
+use Rattle.run_files.specs.Names.{Among, AnyRose}
+use Rattle.run_files.proofs.NameLemmas.{rose_among}
+use Rattle.fabric_tool.specs.Ending.{CountsOf}
+
+module _ {reads : List ℕ → Type 0} {end : End} {a b : Seen} (u : Uses reads Nothing end a b) where
+  pub used_touches : Touches Nothing reads a b
+  used_touches = touches_wider Nothing (Either reads Nothing) Nothing reads a b (λ m x. x) (λ m x. elim x [ inl is ↦ is | inr none ↦ absurd none ]) u.touches
+
+  -- no file has changed
+  pub used_files : SameFiles a b
+  used_files m = u.touches.files m (λ x. x)
+
+  pub used_told : IsTrue a.told → IsTrue b.told
+  used_told told = subst IsTrue (sym u.touches.told) told
+
+  -- what is counted is one of these names
+  pub used_counts : (names written : List (List ℕ)) → ((m : List ℕ) → reads m → Among names m) → CountsOf names written end a b
+  used_counts names written are = counts_then end a a b (λ rose. rose_among a.read_faults b.read_faults names rose.0 (are rose.0 rose.1) rose.2) (λ rose. absurd rose.1) (none_yet a) u.counts
+
+-- that the count of one of several names rose is said in two ways
+pub any_rose : (before now : List ℕ → ℕ) (names : List (List ℕ)) → RoseIn (Among names) before now → AnyRose before now names
+any_rose before now names rose = rose_among before now names rose.0 rose.1 rose.2
