@@ -2,6 +2,7 @@
 use Rattle.std.proofs.Common.{◌≡◌, ℕ, suc, ◌+◌, ◌^◌, ◌<◌, ◌≤◌, inl, inr, List, [], ◌∷◌, ◌++◌, length, map, Option, Some, None, IfSome, IsTrue, Result, Ok, Err, refl, sym, ap, ◌∙◌, subst, arith}
 use Rattle.std.specs.Prelude.{unwrap_or, Vec}
 use Rattle.std.specs.declared.alloc.Global.{Global}
+use Rattle.fab_base.specs.Ending.{End, Uses}
 use Rattle.fab_base.specs.Seen.{Seen, Touches, Nothing, Rose}
 use Rattle.fab_base.specs.declared.values.Failed.{Failed}
 use Rattle.fab_base.proofs.EndingLemmas.{none_then, none_yet}
@@ -20,14 +21,16 @@ use Rattle.pcap_file.specs.declared.Record.{Record}
 use Rattle.fab_gather.specs.declared.shelf.Input.{Input}
 use Rattle.fab_gather.specs.declared.shelf.Shelf.{Shelf}
 use Rattle.pcap_file.specs.declared.fault.GatherFault.{GatherFault}
+use Rattle.pcap_file.specs.Faults.{gather_end}
 use Rattle.run_files.specs.Faults.{fault_from}
 use Rattle.run_files.specs.declared.fault.RunFault.{RunFault}
 use Rattle.run_files.specs.declared.fault.RunFault.TheVariants as fault
 use Rattle.fab_gather.specs.First.{IsNextWindow, LooksFirst, opened_in, start_at}
-use Rattle.fab_base.specs.Slots.{name_of, NameIn}
+use Rattle.fab_base.specs.Slots.{NameIn}
 use Rattle.fab_gather.specs.Ports.{slots_of, AreInputs, walk_at}
 use Rattle.fab_gather.specs.Walked.{Walked}
 use Rattle.fab_gather.proofs.SlotLemmas.{inputs_stay, length-slots, name_in}
+use Rattle.fab_gather.proofs.UsesLemmas.{uses_rose, uses_touches}
 use Rattle.fab_gather.proofs.StayLemmas.{LeftStays, opened_stay}
 use Rattle.fab_gather.proofs.WalkedLemmas.{next_later, next_soon, walked_before, walked_first, walked_next}
 use Rattle.fab_windows.specs.declared.Done.{Done}
@@ -97,29 +100,32 @@ module _ (laws : Laws) (k : Task) (given : AreGiven k.seen k.ins k.journal k.out
       name_then : (m : List ℕ) → NameIn a (slots_of k.ins) m → NameIn k.seen (slots_of k.ins) m
       name_then m h = name_in Ours Ours k.seen a (slots_of k.ins) w.touches given.inputs m h
 
-      module _ (t : Touches Nothing (NameIn a (slots_of k.ins)) a d) where
+      module _ {end : End} (t : Uses (NameIn a (slots_of k.ins)) Nothing end a d) where
+        touch : Touches Nothing (NameIn a (slots_of k.ins)) a d
+        touch = uses_touches (NameIn a (slots_of k.ins)) a d t
+
         touches_looks : Touches Ours (Touched k) k.seen d
-        touches_looks = touches_trans Ours (Touched k) k.seen a d (touches_heads w) (touches_wider Nothing (NameIn a (slots_of k.ins)) Ours (Touched k) a d (λ m x. absurd x) (λ m h. inr (name_then m h)) t)
+        touches_looks = touches_trans Ours (Touched k) k.seen a d (touches_heads w) (touches_wider Nothing (NameIn a (slots_of k.ins)) Ours (Touched k) a d (λ m x. absurd x) (λ m h. inr (name_then m h)) touch)
 
         wholes_looks : IsTrue k.seen.told → Wholes k.settings d k.journal k.outs []
-        wholes_looks told = hold_stays (NameIn a (slots_of k.ins)) a d t k.journal k.outs w.files (text []) (captures k.settings (length k.outs) []) (wholes_then told)
+        wholes_looks told = hold_stays (NameIn a (slots_of k.ins)) a d touch k.journal k.outs w.files (text []) (captures k.settings (length k.outs) []) (wholes_then told)
 
       -- a fault at the first looks
       pub ended_looks : (e : GatherFault) → LooksFirst k.settings (start_at a k.ins k.budget) (start_at d ins left) (Err e) → Ended k d (fault_from e)
       ended_looks e f =
-          ended k d (fault_from e) (touches_looks f.touches)
+          ended k d (fault_from e) (touches_looks f.uses)
           (λ told stops.
           let s = f.stops (told_then told) (stopped_from e stops) in
           subst (λ x. Stopped k.settings k.budget (captures_in k) d k.journal k.outs (fault_from x)) s.2
-          (stops_first k.settings k.budget (captures_in k) laws.nothing_run d k.journal k.outs s.0 (sym (ap (stop k.settings k.budget.bytes k.budget.frames) opened_then) ∙ s.1) s.3 (wholes_looks f.touches told)))
-          (λ told x. ends_before k.settings k.budget (captures_in k) laws.nothing_run (Wholes k.settings d k.journal k.outs) (wholes_looks f.touches told))
-          (λ told x. ends_before k.settings k.budget (captures_in k) laws.nothing_run (Fronts k.settings d k.journal k.outs) (whole_is_front k.settings d k.journal k.outs [] (wholes_looks f.touches told))) (
+          (stops_first k.settings k.budget (captures_in k) laws.nothing_run d k.journal k.outs s.0 (sym (ap (stop k.settings k.budget.bytes k.budget.frames) opened_then) ∙ s.1) s.3 (wholes_looks f.uses told)))
+          (λ told x. ends_before k.settings k.budget (captures_in k) laws.nothing_run (Wholes k.settings d k.journal k.outs) (wholes_looks f.uses told))
+          (λ told x. ends_before k.settings k.budget (captures_in k) laws.nothing_run (Fronts k.settings d k.journal k.outs) (whole_is_front k.settings d k.journal k.outs [] (wholes_looks f.uses told))) (
             λ x.
-                let cause = f.cause (ap (λ y. Err y) (read_from e x)) in
-                let at = name_then (name_of a (slots_of k.ins) cause.0) (cause.0, omega (arith, cause.1, length-slots k.ins), refl) in
+                let cause = uses_rose (NameIn a (slots_of k.ins)) a d f.uses (ap gather_end (read_from e x)) in
+                let at = name_then cause.0 cause.1 in
                 (at.0, omega (arith, at.1, length-slots k.ins), rose_later _ _ _ (w.touches.reads_rise _) (subst (λ n. Rose (a.read_faults n) (d.read_faults n)) at.2 cause.2)),
             λ x. absurd (no_write_from e x),
-            gathering_spares e k.seen a d d (w.reads, w.counts) f.counts f.writes (none_yet d),
+            gathering_spares (NameIn a (slots_of k.ins)) e k.seen a d d (w.reads, w.counts) f.uses (none_yet d),
           )
 
       pub begun : (shelves : Vec Shelf Global) → (1 ≤ length k.ins) × (length k.ins ≤ 64) → length k.outs ≡ length k.ins → k.budget.bytes < 2 ^ 64 →
@@ -129,12 +135,12 @@ module _ (laws : Laws) (k : Task) (given : AreGiven k.seen k.ins k.journal k.out
         ports = ports;
         outputs = outputs;
         limits = limits;
-        touches = touches_looks f.touches;
-        faults = none_then k.seen a d (w.reads, w.counts) (f.counts, f.writes);
+        touches = touches_looks f.uses;
+        faults = none_then k.seen a d (w.reads, w.counts) f.uses.counts;
         walked = λ o next.
             walked_before k.settings k.seen a k.ins k.budget 0 (unwrap_or o 0) (map (λ i. []) k.ins) (walk_at d ins shelves.items left) w.touches.told (lefts_heads w)
             (walked_first k.settings (start_at a k.ins k.budget) (start_at d ins left) shelves f o next);
-        whole = wholes_looks f.touches;
+        whole = wholes_looks f.uses;
       }
 
 -- ---- before the first window

@@ -1,6 +1,6 @@
 -- One window after another: how a turn ends, and what stands after it.
 use Rattle.std.proofs.Common.{◌≡◌, ◌≢◌, ℕ, ◌<◌, ◌≤◌, ◌⊎◌, inl, inr, List, length, Some, IsTrue, Result, Ok, Err, refl, sym, ap, ◌∙◌, subst, arith}
-use Rattle.fab_base.specs.Ending.{End, Said, Read, Write, Memory, NoFaults, SparesReads, SparesWrites, IsSaid}
+use Rattle.fab_base.specs.Ending.{End, Said, Read, Write, Memory, NoFaults, SparesWrites, IsSaid, RoseIn, Uses}
 use Rattle.fab_base.specs.Seen.{Seen, Touches, Nothing, Rose, SameReadFaults, SameWriteFaults}
 use Rattle.fab_base.specs.declared.values.Failed.{Failed}
 use Rattle.fab_base.proofs.SeenLemmas.{rose_later, touches_trans, touches_wider}
@@ -28,6 +28,7 @@ use Rattle.fab_windows.specs.Run.{Interrupted, Stopped, Ends, SparesFaults}
 use Rattle.fab_windows.specs.Turns.{Laws, Task, captures_in, start_of, Touched, Reached, Ended, IsUnwritten}
 use Rattle.fab_gather.specs.Gather.{Gathers}
 use Rattle.fab_gather.proofs.SlotLemmas.{inputs_stay, length-slots, name_in}
+use Rattle.fab_gather.proofs.UsesLemmas.{uses_rose, uses_touches}
 use Rattle.fab_gather.proofs.StayLemmas.{LeftStays}
 use Rattle.fab_gather.proofs.WalkedLemmas.{walked_ahead, walked_splits, walked_stays}
 use Rattle.fab_windows.proofs.EndLemmas.{interrupted, stopped}
@@ -101,11 +102,11 @@ no_write_from gather.Read is = cc
 no_write_from gather.Memory is = cc
 
 -- what was gathered between calls that count none
-pub gathering_spares : (e : GatherFault) (a b c d : Seen) → NoFaults a b → SparesReads (gather_end e) b c → SameWriteFaults b c → NoFaults c d → SparesFaults (run_end (fault_from e)) a d
-gathering_spares (gather.Capture port at why) a b c d before reads writes after = none_then a b d before (none_then b c d (reads, writes) after)
-gathering_spares (gather.Limit kind) a b c d before reads writes after = none_then a b d before (none_then b c d (reads, writes) after)
-gathering_spares gather.Read a b c d before reads writes after = (tt, λ m. after.1 m ∙ writes m ∙ before.1 m)
-gathering_spares gather.Memory a b c d before reads writes after = none_then a b d before (none_then b c d (reads, writes) after)
+pub gathering_spares : (reads : List ℕ → Type 0) (e : GatherFault) (a b c d : Seen) → NoFaults a b → Uses reads Nothing (gather_end e) b c → NoFaults c d → SparesFaults (run_end (fault_from e)) a d
+gathering_spares reads (gather.Capture port at why) a b c d before u after = none_then a b d before (none_then b c d u.counts after)
+gathering_spares reads (gather.Limit kind) a b c d before u after = none_then a b d before (none_then b c d u.counts after)
+gathering_spares reads gather.Read a b c d before u after = (tt, λ m. after.1 m ∙ u.counts.1 m ∙ before.1 m)
+gathering_spares reads gather.Memory a b c d before u after = none_then a b d before (none_then b c d u.counts after)
 
 -- ---- from where a run has come
 
@@ -147,26 +148,27 @@ module _ (laws : Laws) (k : Task) (w first : ℕ) (F : Contents) (d : Seen) (ins
 
   -- ---- reading touches nothing else
 
-  module _ (b : Seen) (t : Touches Nothing (NameIn d (slots_of ins)) d b) where
+  module _ (b : Seen) {end : End} (t : Uses (NameIn d (slots_of ins)) Nothing end d b) where
+    touch : Touches Nothing (NameIn d (slots_of ins)) d b
+    touch = uses_touches (NameIn d (slots_of ins)) d b t
+
     pub read_touches : Touches Ours (Touched k) k.seen b
-    read_touches = touches_trans Ours (Touched k) k.seen d b r.touches (touches_wider Nothing (NameIn d (slots_of ins)) Ours (Touched k) d b (λ m x. absurd x) (λ m h. inr (name_now m h)) t)
+    read_touches = touches_trans Ours (Touched k) k.seen d b r.touches (touches_wider Nothing (NameIn d (slots_of ins)) Ours (Touched k) d b (λ m x. absurd x) (λ m h. inr (name_now m h)) touch)
 
     written_then : (m : List ℕ) → Written b k.journal k.outs m → Ours m
-    written_then m h = written_now m (written_in Nothing (NameIn d (slots_of ins)) d b t k.journal k.outs files_now m h)
+    written_then m h = written_now m (written_in Nothing (NameIn d (slots_of ins)) d b touch k.journal k.outs files_now m h)
 
     told_then : IsTrue k.seen.told → IsTrue b.told
-    told_then told = subst IsTrue (sym t.told) (told_on told)
+    told_then told = subst IsTrue (sym t.touches.told) (told_on told)
 
-    rose_on : (q : ℕ) → q < length ins → Rose (d.read_faults (name_of d (slots_of ins) q)) (b.read_faults (name_of d (slots_of ins) q)) →
-        (p : ℕ) × (p < length k.ins) × Rose (k.seen.read_faults (name_of k.seen (slots_of k.ins) p)) (b.read_faults (name_of k.seen (slots_of k.ins) p))
-    rose_on q lt rose =
-        let within : q < length (slots_of ins) = omega (arith, lt, length-slots ins) in
-        let at = name_now (name_of d (slots_of ins) q) (q, within, refl) in
-        (at.0, omega (arith, at.1, length-slots k.ins), rose_later _ _ _ (r.touches.reads_rise _) (subst (λ n. Rose (d.read_faults n) (b.read_faults n)) at.2 rose))
+    rose_on : RoseIn (NameIn d (slots_of ins)) d.read_faults b.read_faults → (p : ℕ) × (p < length k.ins) × Rose (k.seen.read_faults (name_of k.seen (slots_of k.ins) p)) (b.read_faults (name_of k.seen (slots_of k.ins) p))
+    rose_on rose =
+        let at = name_now rose.0 rose.1 in
+        (at.0, omega (arith, at.1, length-slots k.ins), rose_later _ _ _ (r.touches.reads_rise _) (subst (λ n. Rose (d.read_faults n) (b.read_faults n)) at.2 rose.2))
 
     module _ (p : Pending) (files : IsTrue k.seen.told → WholesBut p k.settings d k.journal k.outs r.entry_list) where
       pub but_on : IsTrue k.seen.told → WholesBut p k.settings b k.journal k.outs r.entry_list
-      but_on told = but_stays (NameIn d (slots_of ins)) d b t k.journal k.outs files_now p k.settings r.entry_list (files told)
+      but_on told = but_stays (NameIn d (slots_of ins)) d b touch k.journal k.outs files_now p k.settings r.entry_list (files told)
 
       front_on : IsTrue k.seen.told → Interrupted k.settings k.budget (captures_in k) (Fronts k.settings b k.journal k.outs)
       front_on told = interrupted_here told (Fronts k.settings b k.journal k.outs) (wholes_but_front p k.settings b k.journal k.outs r.entry_list (but_on told))
@@ -197,15 +199,15 @@ module _ (laws : Laws) (k : Task) (w first : ℕ) (F : Contents) (d : Seen) (ins
   pub ended_gathering : (p : Pending) → (IsTrue k.seen.told → WholesBut p k.settings d k.journal k.outs r.entry_list) → (b : Seen) (ins' : List Input) (shelves' : List Shelf) (left' : Budget) (e : GatherFault) →
       Gathers k.settings first w (walk_at d ins shelves left) (walk_at b ins' shelves' left') (Err e) → (z : Seen) → Writes k.journal k.outs p.lines p.pieces b z (Ok tt) → Ended k z (fault_from e)
   ended_gathering p files b ins' shelves' left' e t z x =
-      ended k z (fault_from e) (then_touches b t.touches p files z x.touches)
+      ended k z (fault_from e) (then_touches b t.uses p files z x.touches)
       (λ told stops.
       let s = t.stops (told_on told) (stopped_from e stops) in
-      subst (λ f. Stopped k.settings k.budget (captures_in k) z k.journal k.outs (fault_from f)) s.2 (stopped_here told z s.0 s.1 s.3 (wholes_then b t.touches p files z x told)))
-      (λ told y. interrupted_here told (Wholes k.settings z k.journal k.outs) (wholes_then b t.touches p files z x told))
-      (λ told y. fronts_then b t.touches p files z x told) (
-        λ y. let cause = t.cause (ap (λ v. Err v) (read_from e y)) in let rose = rose_on b t.touches cause.0 cause.1 cause.2 in (rose.0, rose.1, rose_longer _ _ _ rose.2 (x.touches.reads_rise _)),
+      subst (λ f. Stopped k.settings k.budget (captures_in k) z k.journal k.outs (fault_from f)) s.2 (stopped_here told z s.0 s.1 s.3 (wholes_then b t.uses p files z x told)))
+      (λ told y. interrupted_here told (Wholes k.settings z k.journal k.outs) (wholes_then b t.uses p files z x told))
+      (λ told y. fronts_then b t.uses p files z x told) (
+        λ y. let rose = rose_on b t.uses (uses_rose (NameIn d (slots_of ins)) d b t.uses (ap gather_end (read_from e y))) in (rose.0, rose.1, rose_longer _ _ _ rose.2 (x.touches.reads_rise _)),
         λ y. absurd (no_write_from e y),
-        gathering_spares e k.seen d b z r.faults t.counts t.writes (x.reads, x.counts),
+        gathering_spares (NameIn d (slots_of ins)) e k.seen d b z r.faults t.uses (x.reads, x.counts),
       )
 
   -- ---- writing keeps what is to come
