@@ -40,8 +40,9 @@ use Rattle.fab_windows.specs.Pages.{IsNothing}
 use Rattle.fab_windows.specs.Run.{AreGiven, Runs, Stopped}
 use Rattle.fab_windows.specs.Turns.{Laws, Task, captures_in, start_of, Touched, Begun, Reached, Going, Ended, Finishes}
 use Rattle.fab_windows.proofs.EndLemmas.{whole_is_front, ends_before, stops_first, finished}
-use Rattle.fab_windows.proofs.PublishLemmas.{wholes_but_nothing, flushed_whole, flushed_part, write_cause}
+use Rattle.fab_windows.proofs.PublishLemmas.{wholes_but_nothing, flushed_whole, flushed_part}
 use Rattle.fab_windows.proofs.StayLemmas.{hold_stays, writing_leaves}
+use Rattle.fab_windows.proofs.UsesLemmas.{writing_touches}
 use Rattle.fab_windows.proofs.TurnLemmas.{stopped_from, read_from, no_write_from, gathering_spares, ended, ended_writing, files_now, reached_on}
 
 -- ---- the heads, and the first looks
@@ -74,10 +75,10 @@ module _ (laws : Laws) (k : Task) (given : AreGiven k.seen k.ins k.journal k.out
 
     module _ {r : Result (Unit {0}) Failed} (w : Writes k.journal k.outs head_line pieces k.seen a r) where
       touches_heads : Touches Ours (Touched k) k.seen a
-      touches_heads = touches_wider Ours Ours Ours (Touched k) k.seen a (λ m h. h) (λ m h. inl h) w.touches
+      touches_heads = touches_wider Ours Ours Ours (Touched k) k.seen a (λ m h. h) (λ m h. inl h) (writing_touches Ours k.seen a w.uses)
 
       lefts_heads : LeftStays k.seen a k.ins
-      lefts_heads = writing_leaves k.journal k.outs k.seen a k.ins w.touches given.inputs given.apart
+      lefts_heads = writing_leaves k.journal k.outs k.seen a k.ins w.uses given.inputs given.apart
 
     -- a head that can't be written
     pub ended_heads : (f : Failed) → Writes k.journal k.outs head_line pieces k.seen a (Err f) → Ended k a fault.Write
@@ -85,7 +86,7 @@ module _ (laws : Laws) (k : Task) (given : AreGiven k.seen k.ins k.journal k.out
         ended k a fault.Write (touches_heads w) (λ told x. absurd x) (λ told x. absurd (cc))
         (λ told x. ends_before k.settings k.budget (captures_in k) laws.nothing_run (Fronts k.settings a k.journal k.outs)
         (record { before = None; begins = tt; hold = w.front told [] (text []) (λ q. []) (captures k.settings (length k.outs) []) (hold_none told) laws.nothing_written.0 records_are }))
-        (λ x. absurd (cc), λ x. write_cause k.journal k.outs head_line pieces k.seen a f w, tt)
+        (λ x. absurd (cc), λ x. w.uses.counts.0, tt)
 
     module _ (w : Writes k.journal k.outs head_line pieces k.seen a (Ok tt)) (d : Seen) (ins : List Input) (left : Budget) where
       opened_then : opened_in a k.ins ≡ captures_in k
@@ -95,10 +96,10 @@ module _ (laws : Laws) (k : Task) (given : AreGiven k.seen k.ins k.journal k.out
       wholes_then told = w.whole told [] (text []) (λ q. []) (captures k.settings (length k.outs) []) (hold_none told) laws.nothing_written.0 records_are
 
       told_then : IsTrue k.seen.told → IsTrue a.told
-      told_then told = subst IsTrue (sym w.touches.told) told
+      told_then told = subst IsTrue (sym w.uses.touches.told) told
 
       name_then : (m : List ℕ) → NameIn a (slots_of k.ins) m → NameIn k.seen (slots_of k.ins) m
-      name_then m h = name_in Ours Ours k.seen a (slots_of k.ins) w.touches given.inputs m h
+      name_then m h = name_in Ours Ours k.seen a (slots_of k.ins) (writing_touches Ours k.seen a w.uses) given.inputs m h
 
       module _ {end : End} (t : Uses (NameIn a (slots_of k.ins)) Nothing end a d) where
         touch : Touches Nothing (NameIn a (slots_of k.ins)) a d
@@ -123,9 +124,9 @@ module _ (laws : Laws) (k : Task) (given : AreGiven k.seen k.ins k.journal k.out
             λ x.
                 let cause = uses_rose (NameIn a (slots_of k.ins)) a d f.uses (ap gather_end (read_from e x)) in
                 let at = name_then cause.0 cause.1 in
-                (at.0, omega (arith, at.1, length-slots k.ins), rose_later _ _ _ (w.touches.reads_rise _) (subst (λ n. Rose (a.read_faults n) (d.read_faults n)) at.2 cause.2)),
+                (at.0, omega (arith, at.1, length-slots k.ins), rose_later _ _ _ (w.uses.touches.reads_rise _) (subst (λ n. Rose (a.read_faults n) (d.read_faults n)) at.2 cause.2)),
             λ x. absurd (no_write_from e x),
-            gathering_spares (NameIn a (slots_of k.ins)) e k.seen a d d (w.reads, w.counts) f.uses (none_yet d),
+            gathering_spares (NameIn a (slots_of k.ins)) e k.seen a d d w.uses.counts f.uses (none_yet d),
           )
 
       pub begun : (shelves : Vec Shelf Global) → (1 ≤ length k.ins) × (length k.ins ≤ 64) → length k.outs ≡ length k.ins → k.budget.bytes < 2 ^ 64 →
@@ -136,9 +137,9 @@ module _ (laws : Laws) (k : Task) (given : AreGiven k.seen k.ins k.journal k.out
         outputs = outputs;
         limits = limits;
         touches = touches_looks f.uses;
-        faults = none_then k.seen a d (w.reads, w.counts) f.uses.counts;
+        faults = none_then k.seen a d w.uses.counts f.uses.counts;
         walked = λ o next.
-            walked_before k.settings k.seen a k.ins k.budget 0 (unwrap_or o 0) (map (λ i. []) k.ins) (walk_at d ins shelves.items left) w.touches.told (lefts_heads w)
+            walked_before k.settings k.seen a k.ins k.budget 0 (unwrap_or o 0) (map (λ i. []) k.ins) (walk_at d ins shelves.items left) w.uses.touches.told (lefts_heads w)
             (walked_first k.settings (start_at a k.ins k.budget) (start_at d ins left) shelves f o next);
         whole = wholes_looks f.uses;
       }
@@ -250,7 +251,7 @@ module _ (laws : Laws) (k : Task) (w first : ℕ) (F : Contents) (d : Seen) (ins
   -- what was still to be written is
   ended_well : Writes k.journal k.outs p.lines p.pieces d z (Ok tt) → Runs k.settings (start_at k.seen k.ins k.budget) z (file_slots k.journal k.outs) (Ok done)
   ended_well x =
-      let r = reached_on laws k w first F d ins shelves left g.reached z x.touches x.reads x.counts in
+      let r = reached_on laws k w first F d ins shelves left g.reached z x.uses x.uses.counts in
       record {
         touches = r.touches;
         ends = λ told.
@@ -265,9 +266,8 @@ module _ (laws : Laws) (k : Task) (w first : ℕ) (F : Contents) (d : Seen) (ins
   -- or can't be
   ended_broken : (f : Failed) → Writes k.journal k.outs p.lines p.pieces d z (Err f) → Ended k z fault.Write
   ended_broken f x =
-      ended_writing laws k w first F d ins shelves left g.reached z x.touches x.reads fault.Write tt
+      ended_writing laws k w first F d ins shelves left g.reached z fault.Write x.uses tt
       (λ told. flushed_part p k.settings d z k.journal k.outs g.reached.entry_list (told_end told) (g.files told) x)
-      (λ y. write_cause k.journal k.outs p.lines p.pieces d z f x) tt
 
   pub ended_by : (r : Result Done RunFault) → Finishes k.journal k.outs p done d z r → Runs k.settings (start_at k.seen k.ins k.budget) z (file_slots k.journal k.outs) r
   ended_by (Ok told) h = subst (λ x. Runs k.settings (start_at k.seen k.ins k.budget) z (file_slots k.journal k.outs) (Ok x)) (sym h.1) (ended_well h.0)
@@ -275,7 +275,7 @@ module _ (laws : Laws) (k : Task) (w first : ℕ) (F : Contents) (d : Seen) (ins
 
 -- the captures are still open when the heads are written
 pub inputs_heads : (d : Seen) (ins : List Input) (journal : ℕ) (outs : List ℕ) → AreGiven d ins journal outs → (b : Seen) {lines : List ℕ} {pieces : List (List ℕ)} {r : Result (Unit {0}) Failed} → Writes journal outs lines pieces d b r → AreInputs b (slots_of ins)
-inputs_heads d ins journal outs given b w = inputs_stay (Written d journal outs) (Written d journal outs) d b (slots_of ins) w.touches given.inputs
+inputs_heads d ins journal outs given b w = inputs_stay (Written d journal outs) (Written d journal outs) d b (slots_of ins) (writing_touches (Written d journal outs) d b w.uses) given.inputs
 
 -- the next window, by the code's own configuration and its own list of shelves
 pub next_as : (c d : Settings) (l shelves : List Shelf) (o : Option ℕ) → c ≡ d → l ≡ shelves → IsNextWindow c l o → IsNextWindow d shelves o

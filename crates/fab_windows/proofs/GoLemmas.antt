@@ -147,15 +147,14 @@ module _ (laws : Laws) (k : Task) (w first : ℕ) (F : Contents) (d : Seen) (ins
 
     pub ended_publishing : (e : RunFault) → Publishes (file_slots k.journal k.outs) (lines_from (unwrap_or F.state.tables.clock 0) events) (map (sent_of F.settings events) outs) (paged_at b p) (paged_at z p') (Err e) → Ended k z e
     ended_publishing e x =
-        ended_writing laws k (w + 1) first E b ins' shelves' left' reached_after z x.touches x.reads e x.only
+        ended_writing laws k (w + 1) first E b ins' shelves' left' reached_after z e x.uses x.only
         (λ told. let f = files told in record { before = Some f.before; begins = goes_on f.before f.begins; hold = x.front (told_b told) (text f.before) (text r.entry_list) (text K) (captures c (length k.outs) f.before) (captures c (length k.outs) r.entry_list) (captures c (length k.outs) K) f.hold lines_here records_here })
-        (λ y. x.cause (ap (λ v. Err v) y)) x.counts
 
     module _ (done done' : Done) (frames : done.frames ≡ frame_count r.entry_list) (entries : done.entries ≡ length r.entry_list) where
       pub going_on : Publishes (file_slots k.journal k.outs) (lines_from (unwrap_or F.state.tables.clock 0) events) (map (sent_of F.settings events) outs) (paged_at b p) (paged_at z p') (Ok tt) →
           done'.frames ≡ done.frames + frame_count events → done'.entries ≡ done.entries + length events → Going k (w + 1) first E (walk_at z ins' shelves' left') done' p'
       going_on x more_frames more_entries = record {
-        reached = reached_on laws k (w + 1) first E b ins' shelves' left' reached_after z x.touches x.reads x.counts;
+        reached = reached_on laws k (w + 1) first E b ins' shelves' left' reached_after z x.uses x.uses.counts;
         files = λ told.
             let f = files told in
             elim (x.whole (told_b told) (text f.before) (text r.entry_list) (text K) (captures c (length k.outs) f.before) (captures c (length k.outs) r.entry_list) (captures c (length k.outs) K) f.hold lines_here records_here) [
