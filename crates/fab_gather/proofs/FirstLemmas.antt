@@ -4,9 +4,10 @@ use Rattle.std.specs.Prelude.{nat_lt, ◌==◌, Result, option_to_list, Vec}
 use Rattle.std.specs.declared.alloc.Global.{Global}
 use Rattle.std.proofs.lemmas.Bool.{lt-ltb}
 use Rattle.std.proofs.lemmas.Option.{slice_get_within, slice_get-get_or}
-use Rattle.fab_base.specs.Seen.{Seen, Reads, Touches, Nothing, SameReadFaults, SameWriteFaults}
-use Rattle.fab_base.proofs.EndingLemmas.{spares_reads_then}
-use Rattle.fab_base.proofs.SeenLemmas.{touches_refl}
+use Rattle.fab_base.specs.Ending as endings
+use Rattle.fab_base.specs.Ending.{Said, Uses}
+use Rattle.fab_base.specs.Seen.{Seen, Nothing, Only}
+use Rattle.fab_base.proofs.EndingLemmas.{uses_none, uses_refused}
 use Rattle.fab_config.specs.Settings.{Settings}
 use Rattle.fab_gather.specs.Keeping.{IsFrom}
 use Rattle.fab_policy.specs.Legal.{window_start}
@@ -19,7 +20,6 @@ use Rattle.pcap_file.specs.declared.Record.{Record}
 use Rattle.pcap_file.proofs.lemmas.Numbers.{le_or_lt}
 use Rattle.fab_gather.specs.declared.shelf.Input.{Input}
 use Rattle.fab_gather.specs.declared.shelf.Shelf.{Shelf}
-use Rattle.pcap_file.specs.Faults.{gather_end}
 use Rattle.pcap_file.specs.declared.fault.GatherFault.{GatherFault}
 use Rattle.pcap_file.specs.declared.fault.GatherFault.TheVariants as fault
 use Rattle.fab_gather.specs.First.{IsFresh, AreFresh, opened_by, opened_in, first_look, Looked, StopsFirst, LeavesFirst, LooksOnce, LooksFirst, start_at, Start}
@@ -30,7 +30,7 @@ use Rattle.fab_gather.specs.Reads.{HasRead, HaveRead}
 use Rattle.fab_gather.proofs.OrderLemmas.{After, AllNotBefore, TakesAt, taken_at, Later, ordered, later_looks, before_by}
 use Rattle.fab_gather.proofs.LeavesLemmas.{gave_none, gave_between, gave_first}
 use Rattle.fab_gather.proofs.PortsLemmas.{same_looks, smaller, Row, row_at}
-use Rattle.fab_gather.proofs.SlotLemmas.{some_is, item_at, push_last, push_before, get_set_same, get_set_other, slots_set, same_length, open_now, touches_on, others_left, rose_on}
+use Rattle.fab_gather.proofs.SlotLemmas.{some_is, item_at, push_last, push_before, get_set_same, get_set_other, slots_set, same_length, open_now, uses_on, others_left}
 
 -- ---- a first look among others
 
@@ -204,7 +204,7 @@ pub record Still (a b : Seen) (i i' : Input) : Type 0 where
   pub rest : b.left i.slot ≡ a.left i.slot
 
 pub record Seeing (c : Settings) (k : ℕ) (old : Start) (new : Walk) : Type 0 where
-  pub touches : Touches Nothing (NameIn old.seen (slots_of old.ins)) old.seen new.seen
+  pub uses : Uses (NameIn old.seen (slots_of old.ins)) Nothing Said old.seen new.seen
   pub slots : slots_of new.ins ≡ slots_of old.ins
   pub count : length new.shelves ≡ k
   pub done : (q : ℕ) (i i' : Input) (s : Shelf) → slice_get old.ins q ≡ Some i → At q new.ins new.shelves i' s → Began c old.seen new.seen i i' s new.left
@@ -213,8 +213,6 @@ pub record Seeing (c : Settings) (k : ℕ) (old : Start) (new : Walk) : Type 0 w
   pub passes : IsTrue old.seen.told → (first : ℕ) →
       stop_in first old.left.bytes old.left.frames (in_order (looks_of c 1 (opened_in old.seen old.ins))) ≡ stop_in first new.left.bytes new.left.frames (in_order (joined (fronts c 1 new.seen new.ins new.shelves)))
   pub first_is : IsTrue old.seen.told → first_window (in_order (looks_of c 1 (opened_in old.seen old.ins))) ≡ first_window (in_order (joined (fronts c 1 new.seen new.ins new.shelves)))
-  pub counts : SameReadFaults old.seen new.seen
-  pub writes : SameWriteFaults old.seen new.seen
 
 fresh_at : (ins : List Input) (q : ℕ) (i : Input) → AreFresh ins → slice_get ins q ≡ Some i → IsFresh i.reader
 fresh_at [] q i fresh at = absurd (cc)
@@ -261,7 +259,7 @@ look_turn {c} {k} {a} {b} {ins} {ins'} {shelves} {had} {mid} found_law end_law a
 
 module _ {c : Settings} {k : ℕ} {a b : Seen} {ins ins' : List Input} {shelves : List Shelf} {had mid : Budget} {i1 : Input} (turn : LookTurn c k (start_at a ins had) (walk_at b ins' shelves mid) i1) where
   told_b : IsTrue a.told → IsTrue b.told
-  told_b told = subst IsTrue (sym turn.see.touches.told) told
+  told_b told = subst IsTrue (sym turn.see.uses.touches.told) told
 
   long : length ins' ≡ length ins
   long = same_length ins ins' turn.see.slots
@@ -270,7 +268,7 @@ module _ {c : Settings} {k : ℕ} {a b : Seen} {ins ins' : List Input} {shelves 
   here = let lt = turn.lt in let l = long in omega arith
 
   pub look_open : IsTrue (b.input i1.slot)
-  look_open = open_now a b ins ins' turn.are turn.see.touches turn.see.slots k i1 turn.at
+  look_open = open_now a b ins ins' turn.are turn.see.uses turn.see.slots k i1 turn.at
 
   abbrev i : Input
   i = get_or ins k i1
@@ -329,7 +327,7 @@ module _ {c : Settings} {k : ℕ} {a b : Seen} {ins ins' : List Input} {shelves 
         record { frames = omega arith; bytes = omega arith }
 
     -- what is left of each port, where the one whose turn it is gave this
-    module _ (given : Option Record) (gave : Gave i1.slot b d i1.reader i2.reader (option_to_list given)) (reads : Reads (b.name i1.slot) b d) where
+    module _ (given : Option Record) (gave : Gave i1.slot b d i1.reader i2.reader (option_to_list given)) {end : endings.End} (uses : Uses (Only (b.name i1.slot)) Nothing end b d) where
       own_left : LeavesFirst a d i i2
       own_left = record {
         slot = slot ∙ ap (λ (y : Input). y.slot) still.input;
@@ -338,7 +336,7 @@ module _ {c : Settings} {k : ℕ} {a b : Seen} {ins ins' : List Input} {shelves 
       }
 
       same_left : (q : ℕ) (j : Input) → q ≢ k → slice_get ins' q ≡ Some j → d.left j.slot ≡ b.left j.slot
-      same_left = others_left a b ins ins' turn.are turn.see.touches turn.see.slots k i1 turn.at d reads
+      same_left = others_left a b ins ins' turn.are turn.see.uses turn.see.slots k i1 turn.at d uses
 
       earlier_left : (q : ℕ) (j j' : Input) → q < k → slice_get ins q ≡ Some j → slice_get ins' q ≡ Some j' → LeavesFirst a d j j'
       earlier_left q j j' less first now =
@@ -383,21 +381,18 @@ module _ {c : Settings} {k : ℕ} {a b : Seen} {ins ins' : List Input} {shelves 
 
     pub look_failed : (f : GatherFault) → LooksOnce c (k + 1) i1.slot (reader_stand b i1.reader mid) (reader_stand d i2.reader left) (Err f) → LooksFirst c (start_at a ins had) (start_at d (set ins' k i2) left) (Err f)
     look_failed f t = record {
-      touches = touches_on a b ins ins' turn.are turn.see.touches turn.see.slots k i1 turn.at d t.reads;
+      uses = uses_on a b ins ins' turn.are turn.see.uses turn.see.slots k i1 turn.at d t.uses;
       slots = slots_on;
       count = tt;
       ready = tt;
       read = tt;
       spent = tt;
-      leaves = left_first None t.leaves.0 t.reads;
+      leaves = left_first None t.leaves.0 t.uses;
       fails = λ other. (k, i2, get_set_same ins' k i2 here, t.fails);
       found = (counts_of shelves, subst (λ (x : Budget). Spends had x 0 (counts_of shelves)) (sym t.leaves.1) turn.see.spent);
       takes = taken_from ins (set ins' k i2) had left (counts_of shelves) slots_on (subst (λ (x : Budget). Spends had x 0 (counts_of shelves)) (sym t.leaves.1) turn.see.spent);
       looks_ = λ told. tt;
       stops = λ told stopped. stop_is told (t.stops (told_b told) stopped);
-      cause = λ is. (k, turn.lt, rose_on a b ins ins' turn.are turn.see.touches turn.see.slots k i1 turn.at d (t.cause (let same : f ≡ fault.Read = cc in ap Err same)));
-      counts = spares_reads_then (gather_end f) a b d turn.see.counts t.counts;
-      writes = λ m. t.reads.writes m ∙ turn.see.writes m;
     }
       where
         stop_is : IsTrue a.told → StopsFirst c (k + 1) (opened_by b i1.slot i1.reader) mid f → (s : Stop) × (stop c had.bytes had.frames (opened_in a ins) ≡ Some s) × (ending s ≡ f) × (s.window ≡ None)
@@ -417,21 +412,18 @@ module _ {c : Settings} {k : ℕ} {a b : Seen} {ins ins' : List Input} {shelves 
     -- memory is refused for its shelf
     pub look_lost : (s : Shelf) → LooksOnce c (k + 1) i1.slot (reader_stand b i1.reader mid) (reader_stand d i2.reader left) (Ok s) → LooksFirst c (start_at a ins had) (start_at d (set ins' k i2) left) (Err fault.Memory)
     look_lost s t = record {
-      touches = touches_on a b ins ins' turn.are turn.see.touches turn.see.slots k i1 turn.at d t.reads;
+      uses = uses_refused (NameIn a (slots_of ins)) Nothing a d (uses_on a b ins ins' turn.are turn.see.uses turn.see.slots k i1 turn.at d t.uses);
       slots = slots_on;
       count = tt;
       ready = tt;
       read = tt;
       spent = tt;
-      leaves = left_first s.next (gave_first c (k + 1) i1.slot b d i1.reader i2.reader s mid left look_fresh.greatest t.looked) t.reads;
+      leaves = left_first s.next (gave_first c (k + 1) i1.slot b d i1.reader i2.reader s mid left look_fresh.greatest t.looked) t.uses;
       fails = λ other. absurd (other refl);
       found = (counts_of shelves + s.count, spent_on s t.looked);
       takes = taken_from ins (set ins' k i2) had left (counts_of shelves + s.count) slots_on (spent_on s t.looked);
       looks_ = λ told. tt;
       stops = λ told stopped. absurd stopped;
-      cause = λ is. absurd (cc);
-      counts = λ m. t.counts m ∙ turn.see.counts m;
-      writes = λ m. t.reads.writes m ∙ turn.see.writes m;
     }
 
     abbrev others : Shelf → List Look
@@ -441,7 +433,7 @@ module _ {c : Settings} {k : ℕ} {a b : Seen} {ins ins' : List Input} {shelves 
     looked_on s t =
         let l = t.looked in
         record {
-          touches = touches_on a b ins ins' turn.are turn.see.touches turn.see.slots k i1 turn.at d t.reads;
+          uses = uses_on a b ins ins' turn.are turn.see.uses turn.see.slots k i1 turn.at d t.uses;
           slots = slots_on;
           count = let e = length-append shelves (s ∷ []) in let n = turn.see.count in omega arith;
           done = λ q j j' u first now. elim (le_or_lt k q) [
@@ -462,7 +454,7 @@ module _ {c : Settings} {k : ℕ} {a b : Seen} {ins ins' : List Input} {shelves 
           waits = λ q j j' le first now.
               let before = sym (get_set_other ins' k q i2 (λ e. omega arith)) ∙ now in
               let h = turn.see.waits q j j' (omega arith) first before in
-              let same = others_left a b ins ins' turn.are turn.see.touches turn.see.slots k i1 turn.at d t.reads q j' (λ e. omega arith) before in
+              let same = others_left a b ins ins' turn.are turn.see.uses turn.see.slots k i1 turn.at d t.uses q j' (λ e. omega arith) before in
               record { input = h.input; rest = subst (λ (y : Input). d.left y.slot ≡ b.left y.slot) h.input same ∙ h.rest };
           spent =
               let own = l.spent in
@@ -479,15 +471,13 @@ module _ {c : Settings} {k : ℕ} {a b : Seen} {ins ins' : List Input} {shelves 
               ∙ l.passes (told_b told) first (in_order (joined (set (fronts c 1 d ins' shelves) k (others s))))
               ∙ ap (λ ls. stop_in first left.bytes left.frames (in_order (joined ls))) set_now;
           first_is = λ told. turn.see.first_is told ∙ ap first_window (front_now told) ∙ ap (λ ls. first_window (in_order (joined ls))) set_now;
-          counts = λ m. t.counts m ∙ turn.see.counts m;
-          writes = λ m. t.reads.writes m ∙ turn.see.writes m;
         }
       where
         front_now : IsTrue a.told → in_order (joined (fronts c 1 b ins' shelves)) ≡ own_look ∷ in_order (joined (set (fronts c 1 d ins' shelves) k (others s)))
         front_now told =
             let l = t.looked in
             in_front d (others s) (l.looks_ (told_b told)) (rest_behind turn.found_law turn.end_law c (k + 1) (opened_by b i1.slot i1.reader) (others s) (l.looks_ (told_b told)))
-            (others_left a b ins ins' turn.are turn.see.touches turn.see.slots k i1 turn.at d t.reads)
+            (others_left a b ins ins' turn.are turn.see.uses turn.see.slots k i1 turn.at d t.uses)
 
         set_now : set (fronts c 1 d ins' shelves) k (others s) ≡ fronts c 1 d (set ins' k i2) (shelves ++ s ∷ [])
         set_now =
@@ -509,14 +499,14 @@ module _ {c : Settings} {k : ℕ} {a b : Seen} {ins ins' : List Input} {shelves 
             below = tt;
             chain = λ now.
                 subst (λ (n : ℕ). Chain i.reader.head 0 (option_to_list s.next) (to_come i.reader a i.slot) (to_come i2.reader d n)) (sym slot)
-                (subst (λ (o : Opened). Chain o.head 0 (option_to_list s.next) o.body (to_come i2.reader d i1.slot)) same_opened (l.chain (subst IsTrue t.reads.keeps.told now)));
-            ended = λ now none. subst (λ (n : ℕ). to_come i2.reader d n ≡ []) (sym slot) (l.ended (subst IsTrue t.reads.keeps.told now) none);
+                (subst (λ (o : Opened). Chain o.head 0 (option_to_list s.next) o.body (to_come i2.reader d i1.slot)) same_opened (l.chain (subst IsTrue t.uses.touches.told now)));
+            ended = λ now none. subst (λ (n : ℕ). to_come i2.reader d n ≡ []) (sym slot) (l.ended (subst IsTrue t.uses.touches.told now) none);
           };
         }
 
         others_began : (q : ℕ) (j j' : Input) (u : Shelf) → q ≢ k → slice_get ins' q ≡ Some j' → Began c a b j j' u mid → Began c a d j j' u left
         others_began q j j' u ne h g =
-            let same = others_left a b ins ins' turn.are turn.see.touches turn.see.slots k i1 turn.at d t.reads q j' ne h in
+            let same = others_left a b ins ins' turn.are turn.see.uses turn.see.slots k i1 turn.at d t.uses q j' ne h in
             let own = t.looked.spent in
             let f = own.frames in
             record {
@@ -528,15 +518,15 @@ module _ {c : Settings} {k : ℕ} {a b : Seen} {ins ins' : List Input} {shelves 
                 greatest = g.read.greatest;
                 count = g.read.count;
                 below = tt;
-                chain = λ now. subst (λ (l : List ℕ). Chain j.reader.head 0 (option_to_list u.next) (to_come j.reader a j.slot) (j'.reader.held ++ l)) (sym same) (g.read.chain (subst IsTrue t.reads.keeps.told now));
-                ended = λ now none. ap (λ (l : List ℕ). j'.reader.held ++ l) same ∙ g.read.ended (subst IsTrue t.reads.keeps.told now) none;
+                chain = λ now. subst (λ (l : List ℕ). Chain j.reader.head 0 (option_to_list u.next) (to_come j.reader a j.slot) (j'.reader.held ++ l)) (sym same) (g.read.chain (subst IsTrue t.uses.touches.told now));
+                ended = λ now none. ap (λ (l : List ℕ). j'.reader.held ++ l) same ∙ g.read.ended (subst IsTrue t.uses.touches.told now) none;
               };
             }
 
 -- before the first port
 pub seeing_none : (c : Settings) (a : Seen) (ins : List Input) (had : Budget) → Seeing c 0 (start_at a ins had) (walk_at a ins [] had)
 seeing_none c a ins had = record {
-  touches = touches_refl Nothing (NameIn a (slots_of ins)) a;
+  uses = uses_none (NameIn a (slots_of ins)) Nothing a;
   slots = refl;
   count = refl;
   done = λ q i i' s first now. let at = now.shelf in absurd (cc);
@@ -544,8 +534,6 @@ seeing_none c a ins had = record {
   spent = record { frames = omega arith; bytes = omega arith };
   passes = λ told first. ap (λ l. stop_in first had.bytes had.frames (in_order l)) (sym (fronts_none c 1 a ins));
   first_is = λ told. ap (λ l. first_window (in_order l)) (sym (fronts_none c 1 a ins));
-  counts = λ m. refl;
-  writes = λ m. refl;
 }
 
 have_read : (c : Settings) (a b : Seen) (ins ins' : List Input) (shelves : List Shelf) (left : Budget) → length ins' ≡ length ins → length shelves ≡ length ins →
@@ -566,7 +554,7 @@ looks_all c k a b ins ins' v had left all see =
     let long = same_length ins ins' see.slots in
     let count = see.count ∙ all in
     record {
-      touches = see.touches;
+      uses = see.uses;
       slots = see.slots;
       count = count;
       ready = λ q i' s now. let own = item_at ins q (let less = slice_get_within ins' q i' now.input in omega arith) in ((see.done q own.0 i' s own.1 now).ready, none_below c s.next);
@@ -583,7 +571,4 @@ looks_all c k a b ins ins' v had left all see =
       fails = tt;
       found = (counts_of v.items, see.spent);
       takes = taken_from ins ins' had left (counts_of v.items) see.slots see.spent;
-      cause = λ e. absurd (cc);
-      counts = see.counts;
-      writes = see.writes;
     }

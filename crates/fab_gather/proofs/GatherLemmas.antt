@@ -2,7 +2,7 @@
 use Rattle.std.proofs.Common.{◌≡◌, ℕ, ◌-◌, List, length, slice_get, Some, Err, refl, ap, arith, true}
 use Rattle.std.specs.Prelude.{nat_lt}
 use Rattle.fab_base.specs.Seen.{Seen, Nothing}
-use Rattle.fab_base.proofs.SeenLemmas.{touches_refl}
+use Rattle.fab_base.proofs.EndingLemmas.{uses_none}
 use Rattle.fab_config.specs.Settings.{Settings}
 use Rattle.fab_gather.specs.Looks.{MOST_SPAN}
 use Rattle.pcap_file.specs.declared.Budget.{Budget}
@@ -22,7 +22,7 @@ module _ (c : Settings) (first w : ℕ) where
   pub gathers_late : (late : LateEnds) (d : Seen) (ins : List Input) (shelves : List Shelf) (left : Budget) → length shelves ≡ length ins → AreReady c w ins shelves left →
       IsNextWindow c shelves (Some w) → nat_lt MOST_SPAN (w - first) ≡ true → Gathers c first w (walk_at d ins shelves left) (walk_at d ins shelves left) (Err (fault.Limit limit.Span))
   gathers_late late d ins shelves left count ready next is = record {
-    touches = touches_refl Nothing (NameIn d (slots_of ins)) d;
+    uses = uses_none (NameIn d (slots_of ins)) Nothing d;
     slots = refl;
     count = refl;
     ready = tt;
@@ -34,10 +34,7 @@ module _ (c : Settings) (first w : ℕ) where
         (ap (λ (x : Input). x.slot) input, waits_leaves c w d d i i' s s' input (some_is (slice_get shelves q) s' s now.shelf first.shelf) refl);
     looks = λ told. tt;
     stops = λ told stops. late c first w w d ins shelves left count ready next is;
-    cause = λ x. absurd (cc);
     fails = λ memory span. absurd (span refl);
     late = (λ x. is, λ x. refl);
     same = λ x. (refl, refl, refl, refl);
-    counts = λ m. refl;
-    writes = λ m. refl;
   }

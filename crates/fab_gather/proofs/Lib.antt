@@ -1,6 +1,7 @@
 mod LooksLemmas
 mod KeepLemmas
 pub mod WindowLemmas
+pub mod UsesLemmas
 pub mod SlotLemmas
 pub mod OrderLemmas
 pub mod PortLemmas

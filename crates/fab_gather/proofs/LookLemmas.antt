@@ -3,7 +3,6 @@ use Rattle.std.proofs.Common.{◌≡◌, ℕ, ◌-◌, ◌^◌, ◌<◌, Bool, �
 use Rattle.std.specs.Prelude.{option_to_list, is_some}
 use Rattle.std.specs.Int.{from_bool}
 use Rattle.fab_base.specs.Seen.{Seen}
-use Rattle.fab_base.proofs.EndingLemmas.{spares_reads}
 use Rattle.fab_config.specs.Settings.{Settings}
 use Rattle.fab_policy.specs.Legal.{window_start}
 use Rattle.fab_gather.specs.Looks.{Opened, Look, found_at, is_found, behind, looks, first_spot, stop_in, stop_at, Fails, record_size, LooksFound, LooksEnd, StepsFindStop}
@@ -16,13 +15,12 @@ use Rattle.pcap_file.specs.declared.Record.{Record}
 use Rattle.pcap_file.proofs.lemmas.Chains.{end_is}
 use Rattle.pcap_file.proofs.lemmas.Steps.{gives_found, ends_end}
 use Rattle.fab_gather.specs.declared.shelf.Shelf.{Shelf}
-use Rattle.pcap_file.specs.declared.fault.GatherFault.TheVariants as fault
 use Rattle.fab_gather.specs.First.{IsFresh, opened_by, first_look, Looked, LooksOnce}
-use Rattle.pcap_file.specs.Faults.{fault_by, gather_end}
+use Rattle.pcap_file.specs.Faults.{fault_by}
 use Rattle.fab_gather.specs.Port.{to_look, spot_of, place_behind}
 use Rattle.fab_gather.proofs.LeavesLemmas.{gave_failed}
-use Rattle.pcap_file.proofs.lemmas.Faults.{read_of, spared}
 use Rattle.fab_gather.proofs.PortLemmas.{some_look, says_at, own_of}
+use Rattle.fab_gather.proofs.UsesLemmas.{next_uses, failed_uses}
 
 -- one record is looked at, or none
 pub count_is : (next : Option Record) (some : Bool) (n : ℕ) → some ≡ is_some next → n ≡ from_bool some → n ≡ length (option_to_list next)
@@ -133,7 +131,7 @@ module _ (found_law : LooksFound) (end_law : LooksEnd) (steps : StepsFindStop) (
         }
 
   pub looked : (next : Option Record) (s : Shelf) → s.next ≡ next → s.count ≡ length (option_to_list next) → NextReads slot (reader_stand a r had) (reader_stand b r' left) (Ok next) → LooksOnce c port slot (reader_stand a r had) (reader_stand b r' left) (Ok s)
-  looked next s is count n = record { reads = n.reads; looked = by_next next is count n; stops = λ told. tt; leaves = tt; fails = tt; cause = λ e. absurd (cc); counts = n.counts }
+  looked next s is count n = record { uses = next_uses slot (reader_stand a r had) (reader_stand b r' left) next n; looked = by_next next is count n; stops = λ told. tt; leaves = tt; fails = tt }
     where
       by_next : (next : Option Record) → s.next ≡ next → s.count ≡ length (option_to_list next) → NextReads slot (reader_stand a r had) (reader_stand b r' left) (Ok next) → Looked c port slot (reader_stand a r had) (reader_stand b r' left) s
       by_next None is count n = looked_end s is count n
@@ -142,7 +140,7 @@ module _ (found_law : LooksFound) (end_law : LooksEnd) (steps : StepsFindStop) (
   -- an error
   pub looked_failed : (e : CapError) → NextReads slot (reader_stand a r had) (reader_stand b r' left) (Err e) → LooksOnce c port slot (reader_stand a r had) (reader_stand b r' left) (Err (fault_by e port))
   looked_failed e n = record {
-    reads = n.reads;
+    uses = failed_uses slot (reader_stand a r had) (reader_stand b r' left) port is_fresh.kept e n;
     looked = tt;
     leaves = (gave_failed slot a b r r' had left e n.kept, n.kept.budget);
     fails = (e, ap (λ (q : Reading). q.kept) n.kept.kept, refl);
@@ -154,6 +152,4 @@ module _ (found_law : LooksFound) (end_law : LooksEnd) (steps : StepsFindStop) (
           are = more.1;
           says = λ first rest. let f = steps first had x rest (Stops e) refl is in (stop_at (Fails f.0) x, f.2, ap (λ q. fault_by q port) (sym f.1), refl);
         };
-    cause = λ same. let f = read_of port e (let same' : fault_by e port ≡ fault.Read = cc in same') in n.cause is_fresh.kept f.0 (ap Err f.1);
-    counts = spares_reads (gather_end (fault_by e port)) a b (λ other. spared port e a b n.counts (λ same. other (ap gather_end same)));
   }

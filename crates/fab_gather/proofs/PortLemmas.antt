@@ -1,12 +1,12 @@
 -- The records of a window of one port, taken one after another.
-use Rattle.std.proofs.Common.{◌≡◌, ◌≢◌, ℕ, ◌+◌, ◌-◌, ◌*◌, ◌^◌, ◌<◌, ◌≤◌, inr, true, false, List, [], ◌∷◌, ◌++◌, length, length-append, Option, Some, None, IfSome, Ok, Err, IsTrue, refl, sym, ap, ◌∙◌, subst, arith, append_assoc}
+use Rattle.std.proofs.Common.{◌≡◌, ◌≢◌, ℕ, ◌+◌, ◌-◌, ◌*◌, ◌^◌, ◌<◌, ◌≤◌, inl, inr, true, false, List, [], ◌∷◌, ◌++◌, length, length-append, Option, Some, None, IfSome, Ok, Err, IsTrue, refl, sym, ap, ◌∙◌, subst, arith, append_assoc}
 use Rattle.std.specs.Prelude.{Result, nat_lt, option_to_list}
 use Rattle.std.proofs.lemmas.List.{append-nil}
 use Rattle.std.proofs.lemmas.Bool.{eqb-true}
-use Rattle.fab_base.specs.Seen.{Seen, Reads, Rose, SameReadFaults}
-use Rattle.fab_base.specs.declared.values.Failed.{Failed}
-use Rattle.fab_base.proofs.EndingLemmas.{spares_reads}
-use Rattle.fab_base.proofs.SeenLemmas.{reads_refl, reads_trans, input_name, rose_later}
+use Rattle.fab_base.specs.Ending as endings
+use Rattle.fab_base.specs.Ending.{Said, Uses}
+use Rattle.fab_base.specs.Seen.{Seen, Nothing, Only}
+use Rattle.fab_base.proofs.EndingLemmas.{uses_none, uses_refused, uses_then}
 use Rattle.fab_config.specs.Settings.{Settings}
 use Rattle.fab_policy.specs.Legal.{window_start}
 use Rattle.fab_gather.specs.Looks.{Spot, Look, look_at, found_at, is_found, behind, looks, stop_in, stop_at, Fails, record_size, LooksFound, LooksEnd, StepsFindStop, MOST_SPAN}
@@ -19,13 +19,13 @@ use Rattle.pcap_file.specs.declared.CapError.TheVariants as errors
 use Rattle.pcap_file.specs.declared.Record.{Record}
 use Rattle.pcap_file.proofs.lemmas.Chains.{chain_push, last-push, end_is}
 use Rattle.pcap_file.proofs.lemmas.Steps.{gives_found, ends_end}
-use Rattle.pcap_file.proofs.lemmas.Faults.{read_of, spared}
 use Rattle.fab_gather.specs.declared.shelf.Shelf.{Shelf}
 use Rattle.pcap_file.specs.declared.fault.LimitKind.TheVariants as limit
 use Rattle.pcap_file.specs.declared.fault.GatherFault.TheVariants as fault
 use Rattle.pcap_file.specs.Faults.{fault_by, gather_end, IsStopped}
 use Rattle.fab_gather.specs.Port.{IsReady, Spends, Taking, TakesWindow, StopsIn, AreOf, AreIn, Pass, is_in, spot_of, to_look, LeavesPort, stand_at, port_walk_at}
 use Rattle.fab_gather.proofs.LeavesLemmas.{gave_more, gave_end, gave_broken, place-push}
+use Rattle.fab_gather.proofs.UsesLemmas.{next_uses, failed_uses}
 
 -- ---- lists
 
@@ -87,7 +87,7 @@ never_span port errors.Memory same = absurd (cc)
 
 pub taking_none : (c : Settings) (port w slot : ℕ) (a : Seen) (r : Reading) (s s' : Shelf) (had : Budget) → s'.batch.items ≡ [] → s'.next ≡ s.next → s'.count ≡ s.count → IsReady r s.next s.count had → Taking c port w slot (port_walk_at a r s had) (port_walk_at a r s' had)
 taking_none c port w slot a r s s' had empty same count ready = record {
-  reads = reads_refl (a.name slot) a;
+  uses = uses_none (Only (a.name slot)) Nothing a;
   ready = subst (λ (n : ℕ). IsReady r s'.next n had) (sym count) (subst (λ o. IsReady r o s.count had) (sym same) ready);
   spent = record { frames = omega arith; bytes = omega arith };
   in_window = subst (AreIn c w) (sym empty) tt;
@@ -102,7 +102,6 @@ taking_none c port w slot a r s s' had empty same count ready = record {
   onward = omega arith;
   ended = λ told some none. absurd (some (sym same ∙ none));
   looks = λ told. ([], (λ i. to_look c port a slot r (sym count i) (sym same i)), tt, λ first rest late. refl);
-  counts = λ m. refl;
 }
 
 -- ---- one more
@@ -117,13 +116,13 @@ some_look found end_ c port s (CutBytes len) e = ([], end_ c port s (ap is_found
 
 module _ (found_law : LooksFound) (end_law : LooksEnd) (steps : StepsFindStop) (c : Settings) (port w slot : ℕ) (a b d : Seen) (r r1 r2 : Reading) (s s1 : Shelf) (had mid left : Budget) (is_open : IsTrue (a.input slot)) (t : Taking c port w slot (port_walk_at a r s had) (port_walk_at b r1 s1 mid)) (own : There c w s1.next) where
   name_is : b.name slot ≡ a.name slot
-  name_is = input_name (a.name slot) a b t.reads.keeps slot is_open
+  name_is = (t.uses.touches.slots slot (inl is_open)).name
 
   told_b : IsTrue a.told → IsTrue b.told
-  told_b told = subst IsTrue (sym t.reads.keeps.told) told
+  told_b told = subst IsTrue (sym t.uses.touches.told) told
 
-  reads_on : Reads (b.name slot) b d → Reads (a.name slot) a d
-  reads_on more = reads_trans (a.name slot) a b d t.reads (subst (λ n. Reads n b d) name_is more)
+  uses_on : (end : endings.End) → Uses (Only (b.name slot)) Nothing end b d → Uses (Only (a.name slot)) Nothing end a d
+  uses_on end more = uses_then (Only (a.name slot)) Nothing end a b d t.uses (subst (λ n. Uses (Only n) Nothing end b d) name_is more)
 
   abbrev spot : Spot
   spot = spot_of b slot r1 s1.count (Some w)
@@ -204,7 +203,7 @@ module _ (found_law : LooksFound) (end_law : LooksEnd) (steps : StepsFindStop) (
 
       pub taking_more : Taking c port w slot (port_walk_at a r s had) (port_walk_at d r2 s2 left)
       taking_more = record {
-        reads = reads_on n.reads;
+        uses = uses_on Said (next_uses slot (reader_stand b r1 mid) (reader_stand d r2 left) (Some y) n);
         ready = record {
           fresh = ap (λ (q : Reading). q.kept) n.taken.moved ∙ n.taken.fresh;
           last = subst (λ o. IfSome o (λ v. r2.greatest ≡ v.moment)) (sym is_next) greatest_on;
@@ -234,7 +233,6 @@ module _ (found_law : LooksFound) (end_law : LooksEnd) (steps : StepsFindStop) (
           made_are told,
           pass_on told (one told),
         );
-        counts = λ m. n.counts m ∙ t.counts m;
       }
 
     -- the end
@@ -256,7 +254,7 @@ module _ (found_law : LooksFound) (end_law : LooksEnd) (steps : StepsFindStop) (
       taking_end =
           let same = n.taken.same in
           record {
-            reads = reads_on n.reads;
+            uses = uses_on Said (next_uses slot (reader_stand b r1 mid) (reader_stand d r2 left) None n);
             ready = record {
               fresh = ap (λ (q : Reading). q.kept) same ∙ n.taken.fresh;
               last = subst (λ o. IfSome o (λ v. r2.greatest ≡ v.moment)) (sym is_next) tt;
@@ -284,7 +282,6 @@ module _ (found_law : LooksFound) (end_law : LooksEnd) (steps : StepsFindStop) (
               made_are told,
               pass_on told (end_one told),
             );
-            counts = λ m. n.counts m ∙ t.counts m;
           }
         where
           nothing_left : found_at spot ≡ End → to_come r1 b slot ≡ []
@@ -311,15 +308,13 @@ module _ (found_law : LooksFound) (end_law : LooksEnd) (steps : StepsFindStop) (
   pub taking_lost : (o : Option Record) (s2 : Shelf) → s2.batch.items ≡ s1.batch.items → s2.next ≡ o → s2.count ≡ s1.count + length (option_to_list o) →
       NextReads slot (reader_stand b r1 mid) (reader_stand d r2 left) (Ok o) → TakesWindow c port w slot (port_walk_at a r s had) (port_walk_at d r2 s2 left) (Err fault.Memory)
   taking_lost o s2 batch next count n = record {
-    reads = reads_on n.reads;
+    uses = uses_refused (Only (a.name slot)) Nothing a d (uses_on Said (next_uses slot (reader_stand b r1 mid) (reader_stand d r2 left) o n));
     taking = tt;
     beyond = tt;
     stops = λ told st. absurd st;
     leaves = by_next o next count n;
     in_span = λ same. absurd (cc);
     fails = λ other. absurd (other refl);
-    cause = λ same. absurd (cc);
-    counts = λ m. n.counts m ∙ t.counts m;
   }
     where
       one : length (own.r ∷ []) ≤ 1
@@ -388,18 +383,12 @@ module _ (found_law : LooksFound) (end_law : LooksEnd) (steps : StepsFindStop) (
               );
         }
 
-    caused : fault_by e port ≡ fault.Read → Rose (a.read_faults (a.name slot)) (d.read_faults (a.name slot))
-    caused same =
-        let f = read_of port e same in
-        rose_later _ _ _ t.reads.keeps.reads_rise (subst (λ m. Rose (b.read_faults m) (d.read_faults m)) name_is (n.cause fresh f.0 (ap Err f.1)))
-
     pub taking_failed : TakesWindow c port w slot (port_walk_at a r s had) (port_walk_at d r' s1 left) (Err (fault_by e port))
     taking_failed = record {
-      reads = reads_on n.reads;
+      uses = uses_on (gather_end (fault_by e port)) (failed_uses slot (reader_stand b r1 mid) (reader_stand d r' left) port fresh e n);
       taking = tt;
       beyond = tt;
       stops = λ told st. stops_with told (says_at (step_of mid r1.at (found_at spot)) (to_come r' d slot) e (own_of port e st) (n.says (told_b told) fresh));
-      cause = λ same. caused (let same' : fault_by e port ≡ fault.Read = cc in same');
       leaves = (
         record {
           given = t.given;
@@ -416,7 +405,6 @@ module _ (found_law : LooksFound) (end_law : LooksEnd) (steps : StepsFindStop) (
       );
       in_span = never_span port e;
       fails = λ other. (e, ap (λ (q : Reading). q.kept) n.kept.kept, refl);
-      counts = spares_reads (gather_end (fault_by e port)) a d (λ other m. spared port e b d n.counts (λ same. other (ap gather_end same)) m ∙ t.counts m);
     }
 
 pub next_at : {s t : ℕ} {a b : Seen} {r r' : Reading} {had left : Budget} {x : Result (Option Record) CapError} → s ≡ t → NextReads s (reader_stand a r had) (reader_stand b r' left) x → NextReads t (reader_stand a r had) (reader_stand b r' left) x

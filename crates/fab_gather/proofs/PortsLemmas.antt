@@ -3,9 +3,9 @@ use Rattle.std.proofs.Common.{◌≡◌, ◌≢◌, ℕ, zero, suc, ◌+◌, ◌
 use Rattle.std.specs.Prelude.{nat_lt, Result, IsErrOf}
 use Rattle.std.proofs.lemmas.List.{length-set}
 use Rattle.std.proofs.lemmas.Option.{slice_get_within, slice_get-get_or}
-use Rattle.fab_base.specs.Seen.{Seen, Touches, Nothing, SameReadFaults, SameWriteFaults}
-use Rattle.fab_base.proofs.EndingLemmas.{spares_reads_then}
-use Rattle.fab_base.proofs.SeenLemmas.{touches_refl}
+use Rattle.fab_base.specs.Ending.{Said, Uses}
+use Rattle.fab_base.specs.Seen.{Seen, Nothing}
+use Rattle.fab_base.proofs.EndingLemmas.{uses_none}
 use Rattle.fab_config.specs.Settings.{Settings}
 use Rattle.fab_policy.specs.Legal.{window_start}
 use Rattle.fab_gather.specs.Looks.{Look, looks, in_order, stop_in, MOST_SPAN}
@@ -16,7 +16,6 @@ use Rattle.pcap_file.specs.declared.Record.{Record}
 use Rattle.pcap_file.proofs.lemmas.Numbers.{le_or_lt}
 use Rattle.fab_gather.specs.declared.shelf.Input.{Input}
 use Rattle.fab_gather.specs.declared.shelf.Shelf.{Shelf}
-use Rattle.pcap_file.specs.Faults.{gather_end}
 use Rattle.pcap_file.specs.declared.fault.GatherFault.{GatherFault}
 use Rattle.pcap_file.specs.declared.fault.GatherFault.TheVariants as fault
 use Rattle.pcap_file.specs.declared.fault.LimitKind.TheVariants as limit
@@ -28,7 +27,7 @@ use Rattle.fab_gather.proofs.ReadLemmas.{nothing_behind}
 use Rattle.fab_gather.proofs.OrderLemmas.{TakesAt, taken_at, Sorted, AllNotBefore, Leads, EachBefore, each-append, each-nil, leads_more, sorted_leads, sorted_looks, later_looks, later_not_before, made_before}
 use Rattle.fab_gather.proofs.LeavesLemmas.{took_leaves, waits_leaves, leaves_from}
 use Rattle.fab_gather.proofs.PortLemmas.{are_of-push}
-use Rattle.fab_gather.proofs.SlotLemmas.{some_is, get_set_same, get_set_other, slots_set, same_length, open_now, touches_on, others_left, rose_on}
+use Rattle.fab_gather.proofs.SlotLemmas.{some_is, get_set_same, get_set_other, slots_set, same_length, open_now, uses_on, others_left}
 use Rattle.fab_gather.proofs.WindowLemmas.{window_start-mono}
 
 -- ---- what stands before a port
@@ -47,7 +46,7 @@ pub record Waits (c : Settings) (w : ℕ) (old new : PortStand) (left : Budget) 
   pub from : IfSome old.shelf.next (λ x. w ≤ window_start c x.moment)
 
 pub record Round (c : Settings) (w k : ℕ) (old new : Walk) : Type 0 where
-  pub touches : Touches Nothing (NameIn old.seen (slots_of old.ins)) old.seen new.seen
+  pub uses : Uses (NameIn old.seen (slots_of old.ins)) Nothing Said old.seen new.seen
   pub slots : slots_of new.ins ≡ slots_of old.ins
   pub count : length new.shelves ≡ length old.shelves
   pub done : (q : ℕ) (i i' : Input) (s s' : Shelf) → q < k → At q old.ins old.shelves i s → At q new.ins new.shelves i' s' → Done c w (stand_at old.seen i s) (stand_at new.seen i' s') new.left
@@ -56,8 +55,6 @@ pub record Round (c : Settings) (w k : ℕ) (old new : Walk) : Type 0 where
   pub bytes : new.left.bytes ≤ old.left.bytes
   pub frames : new.left.frames ≤ old.left.frames
   pub looks : IsTrue old.seen.told → (first : ℕ) → nat_lt MOST_SPAN (w - first) ≡ false → stop_after c first old ≡ stop_after c first new
-  pub counts : SameReadFaults old.seen new.seen
-  pub writes : SameWriteFaults old.seen new.seen
 
 -- ---- counts
 
@@ -168,7 +165,7 @@ turn_of {c} {w} {k} {a} {b} {ins} {ins'} {shelves} {shelves'} {had} {mid} are co
 
 module _ {c : Settings} {w k : ℕ} {a b : Seen} {ins ins' : List Input} {shelves shelves' : List Shelf} {had mid : Budget} {i1 : Input} {s1 : Shelf} (turn : Turn c w k (walk_at a ins shelves had) (walk_at b ins' shelves' mid) i1 s1) where
   told_b : IsTrue a.told → IsTrue b.told
-  told_b told = subst IsTrue (sym turn.round.touches.told) told
+  told_b told = subst IsTrue (sym turn.round.uses.touches.told) told
 
   long : length ins' ≡ length ins
   long = same_length ins ins' turn.round.slots
@@ -190,7 +187,7 @@ module _ {c : Settings} {w k : ℕ} {a b : Seen} {ins ins' : List Input} {shelve
       record { input = slice_get-get_or ins q i' (omega arith); shelf = slice_get-get_or shelves q s' (omega arith) }
 
   pub turn_open : IsTrue (b.input i1.slot)
-  turn_open = open_now a b ins ins' turn.are turn.round.touches turn.round.slots k i1 turn.at.input
+  turn_open = open_now a b ins ins' turn.are turn.round.uses turn.round.slots k i1 turn.at.input
 
   abbrev i : Input
   i = get_or ins k i1
@@ -242,7 +239,7 @@ module _ {c : Settings} {w k : ℕ} {a b : Seen} {ins ins' : List Input} {shelve
 
     pub turn_failed : (f : GatherFault) → TakesWindow c (k + 1) w i1.slot (port_walk_at b i1.reader s1 mid) (port_walk_at d i2.reader s2 left) (Err f) → TakesAll c w (walk_at a ins shelves had) (walk_at d (set ins' k i2) (set shelves' k s2) left) (Err f)
     turn_failed f t = λ first in_time. record {
-      touches = touches_on a b ins ins' turn.are turn.round.touches turn.round.slots k i1 turn.at.input d t.reads;
+      uses = uses_on a b ins ins' turn.are turn.round.uses turn.round.slots k i1 turn.at.input d t.uses;
       slots = slots_on;
       count = count_on;
       ready = tt;
@@ -290,12 +287,9 @@ module _ {c : Settings} {w k : ℕ} {a b : Seen} {ins ins' : List Input} {shelve
             says.2,
             says.3,
           );
-      cause = λ is. (k, turn.lt, rose_on a b ins ins' turn.are turn.round.touches turn.round.slots k i1 turn.at.input d (t.cause is));
       fails = λ memory span. (k, i2, get_set_same ins' k i2 here, t.fails memory);
       late = (λ x. absurd (over x), λ x. let both : true ≡ false = sym x ∙ in_time in absurd (cc));
       same = λ x. absurd (over x);
-      counts = spares_reads_then (gather_end f) a b d turn.round.counts t.counts;
-      writes = λ m. t.reads.writes m ∙ turn.round.writes m;
     }
       where
         over : IsErrOf {T = Unit {0}} (Err f) (fault.Limit limit.Span) → ⊥
@@ -316,20 +310,20 @@ module _ {c : Settings} {w k : ℕ} {a b : Seen} {ins ins' : List Input} {shelve
         earlier_left : (q : ℕ) (j j' : Input) (u u' : Shelf) → q < k → At q ins shelves j u → At q ins' shelves' j' u' → Left j j' u u'
         earlier_left q j j' u u' less first now =
             let h = turn.round.done q j j' u u' less first now in
-            let same = others_left a b ins ins' turn.are turn.round.touches turn.round.slots k i1 turn.at.input d t.reads q j' (λ e. omega arith) now.input in
+            let same = others_left a b ins ins' turn.are turn.round.uses turn.round.slots k i1 turn.at.input d t.uses q j' (λ e. omega arith) now.input in
             (h.took.slot, took_leaves c w a b d j j' u u' (subst (λ (n : ℕ). d.left n ≡ b.left n) h.took.slot same) h.took)
 
         later_left : (q : ℕ) (j j' : Input) (u u' : Shelf) → k < q → At q ins shelves j u → At q ins' shelves' j' u' → Left j j' u u'
         later_left q j j' u u' more first now =
             let h = turn.round.waits q j j' u u' (omega arith) first now in
-            let same = others_left a b ins ins' turn.are turn.round.touches turn.round.slots k i1 turn.at.input d t.reads q j' (λ e. omega arith) now.input in
+            let same = others_left a b ins ins' turn.are turn.round.uses turn.round.slots k i1 turn.at.input d t.uses q j' (λ e. omega arith) now.input in
             (ap (λ (x : Input). x.slot) h.input, waits_leaves c w a d j j' u u' h.input h.shelf (subst (λ (x : Input). d.left x.slot ≡ b.left x.slot) h.input same ∙ h.rest))
 
     pub turn_taken : TakesWindow c (k + 1) w i1.slot (port_walk_at b i1.reader s1 mid) (port_walk_at d i2.reader s2 left) (Ok tt) → Round c w (k + 1) (walk_at a ins shelves had) (walk_at d (set ins' k i2) (set shelves' k s2) left)
     turn_taken t =
         let g = subst (λ (y : Shelf). Taking c (k + 1) w i.slot (port_walk_at b i.reader y mid) (port_walk_at d i2.reader s2 left)) waits.shelf (subst (λ (x : Input). Taking c (k + 1) w x.slot (port_walk_at b x.reader s1 mid) (port_walk_at d i2.reader s2 left)) waits.input t.taking) in
         record {
-          touches = touches_on a b ins ins' turn.are turn.round.touches turn.round.slots k i1 turn.at.input d t.reads;
+          uses = uses_on a b ins ins' turn.are turn.round.uses turn.round.slots k i1 turn.at.input d t.uses;
           slots = slots_on;
           count = count_on;
           done = λ q j j' u u' less first now. elim (le_or_lt k q) [
@@ -356,15 +350,13 @@ module _ {c : Settings} {w k : ℕ} {a b : Seen} {ins ins' : List Input} {shelve
           frames = let own = t.taking.spent in let m = own.frames in let n = t.taking.count in let h = turn.round.frames in omega arith;
           looks = λ told first late.
               let l = t.taking.looks (told_b told) in
-              let one = one_takes d l.0 (to_look c (k + 1) d i1.slot i2.reader s2.count s2.next) (λ q j u ne h. others_left a b ins ins' turn.are turn.round.touches turn.round.slots k i1 turn.at.input d t.reads q j ne h.input) l.1 l.2 in
+              let one = one_takes d l.0 (to_look c (k + 1) d i1.slot i2.reader s2.count s2.next) (λ q j u ne h. others_left a b ins ins' turn.are turn.round.uses turn.round.slots k i1 turn.at.input d t.uses q j ne h.input) l.1 l.2 in
               turn.round.looks told first late
               ∙ ap (stop_in first mid.bytes mid.frames) (in_front d l.0 _ one)
               ∙ l.3 first (in_order (joined (set (rests c 1 d ins' shelves') k (to_look c (k + 1) d i1.slot i2.reader s2.count s2.next)))) late
               ∙ ap (λ ls. stop_in first left.bytes left.frames (in_order (joined ls)))
               (rests_set c k 1 d ins' shelves' i2 s2 (to_look c (k + 1) d i1.slot i2.reader s2.count s2.next) here wide
               (λ n e. let number : k + 1 ≡ n = omega arith in λ x. to_look c (number_sym n number x) d (slot x) i2.reader s2.count s2.next));
-          counts = λ m. t.taking.counts m ∙ turn.round.counts m;
-          writes = λ m. t.reads.writes m ∙ turn.round.writes m;
         }
       where
         coe_done : {x y x' y' : Input} {v z v' z' : Shelf} → x ≡ y → x' ≡ y' → v ≡ z → v' ≡ z' → Done c w (stand_at a x v) (stand_at d x' v') left → Done c w (stand_at a y z) (stand_at d y' z') left
@@ -407,7 +399,7 @@ module _ {c : Settings} {w k : ℕ} {a b : Seen} {ins ins' : List Input} {shelve
         others_done : (q : ℕ) (j j' : Input) (u u' : Shelf) → q < k → At q ins shelves j u → At q ins' shelves' j' u' → TakesWindow c (k + 1) w i1.slot (port_walk_at b i1.reader s1 mid) (port_walk_at d i2.reader s2 left) (Ok tt) → Done c w (stand_at a j u) (stand_at d j' u') left
         others_done q j j' u u' less first now t =
             let h = turn.round.done q j j' u u' less first now in
-            let same = others_left a b ins ins' turn.are turn.round.touches turn.round.slots k i1 turn.at.input d t.reads q j' (λ e. omega arith) now.input in
+            let same = others_left a b ins ins' turn.are turn.round.uses turn.round.slots k i1 turn.at.input d t.uses q j' (λ e. omega arith) now.input in
             let at_j : d.left j.slot ≡ b.left j.slot = subst (λ (n : ℕ). d.left n ≡ b.left n) h.took.slot same in
             let fewer = less_is t in
             record {
@@ -430,7 +422,7 @@ module _ {c : Settings} {w k : ℕ} {a b : Seen} {ins ins' : List Input} {shelve
         others_wait : (q : ℕ) (j j' : Input) (u u' : Shelf) → k < q → At q ins shelves j u → At q ins' shelves' j' u' → TakesWindow c (k + 1) w i1.slot (port_walk_at b i1.reader s1 mid) (port_walk_at d i2.reader s2 left) (Ok tt) → Waits c w (stand_at a j u) (stand_at d j' u') left
         others_wait q j j' u u' more first now t =
             let h = turn.round.waits q j j' u u' (omega arith) first now in
-            let same = others_left a b ins ins' turn.are turn.round.touches turn.round.slots k i1 turn.at.input d t.reads q j' (λ e. omega arith) now.input in
+            let same = others_left a b ins ins' turn.are turn.round.uses turn.round.slots k i1 turn.at.input d t.uses q j' (λ e. omega arith) now.input in
             let fewer = less_is t in
             record {
               input = h.input;
@@ -443,7 +435,7 @@ module _ {c : Settings} {w k : ℕ} {a b : Seen} {ins ins' : List Input} {shelve
 -- before the first port
 pub round_none : (c : Settings) (w : ℕ) (a : Seen) (ins : List Input) (shelves : List Shelf) (had : Budget) → AreReady c w ins shelves had → Round c w 0 (walk_at a ins shelves had) (walk_at a ins shelves had)
 round_none c w a ins shelves had ready = record {
-  touches = touches_refl Nothing (NameIn a (slots_of ins)) a;
+  uses = uses_none (NameIn a (slots_of ins)) Nothing a;
   slots = refl;
   count = refl;
   done = λ q i i' s s' lt. absurd (omega arith);
@@ -454,14 +446,12 @@ round_none c w a ins shelves had ready = record {
   bytes = omega arith;
   frames = omega arith;
   looks = λ told first late. refl;
-  counts = λ m. refl;
-  writes = λ m. refl;
 }
 
 -- behind the last
 pub round_all : (c : Settings) (w k : ℕ) (a b : Seen) (ins ins' : List Input) (shelves shelves' : List Shelf) (had left : Budget) → length ins ≤ k → length shelves ≡ length ins → Round c w k (walk_at a ins shelves had) (walk_at b ins' shelves' left) → TakesAll c w (walk_at a ins shelves had) (walk_at b ins' shelves' left) (Ok tt)
 round_all c w k a b ins ins' shelves shelves' had left le count r = λ first in_time. record {
-  touches = r.touches;
+  uses = r.uses;
   slots = r.slots;
   count = r.count;
   ready = λ q i' s' now.
@@ -474,12 +464,9 @@ round_all c w k a b ins ins' shelves shelves' had left le count r = λ first in_
   takes = record { slots = r.slots; bytes = r.bytes; frames = r.frames };
   looks = λ told. r.looks told first in_time;
   stops = λ told. tt;
-  cause = λ e. absurd (cc);
   fails = tt;
   late = (λ x. absurd (cc), λ x. let both : true ≡ false = sym x ∙ in_time in absurd (cc));
   same = λ x. absurd (cc);
-  counts = r.counts;
-  writes = r.writes;
 }
 
 pub taken_as : {c : Settings} {m n w slot : ℕ} {a b : Seen} {r r' : Reading} {s s' : Shelf} {had left : Budget} {result : Result (Unit {0}) GatherFault} → n ≡ m → TakesWindow c m w slot (port_walk_at a r s had) (port_walk_at b r' s' left) result → TakesWindow c n w slot (port_walk_at a r s had) (port_walk_at b r' s' left) result

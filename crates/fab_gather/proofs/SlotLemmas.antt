@@ -1,11 +1,13 @@
 -- Readers of several slots, of which one has its turn.
 use Rattle.std.proofs.Common.{◌≡◌, ◌≢◌, ℕ, zero, suc, ◌<◌, List, [], ◌∷◌, ◌++◌, length, slice_get, set, Option, Some, IsTrue, refl, sym, ap, ◌∙◌, subst, arith, inl}
 use Rattle.std.proofs.lemmas.Option.{slice_get_within}
-use Rattle.fab_base.specs.Seen.{Seen, Reads, Rose, Touches, Nothing, Only}
-use Rattle.fab_base.proofs.SeenLemmas.{touches_trans, touches_wider, reads_touches, rose_later}
+use Rattle.fab_base.specs.Ending.{End, Said, Uses}
+use Rattle.fab_base.specs.Seen.{Seen, Touches, Nothing, Only}
+use Rattle.fab_base.proofs.EndingLemmas.{uses_then, uses_wider}
 use Rattle.fab_gather.specs.declared.shelf.Input.{Input}
 use Rattle.fab_base.specs.Slots.{slot_at, name_of, NameIn}
 use Rattle.fab_gather.specs.Ports.{AreInputs, slots_of}
+use Rattle.fab_gather.proofs.UsesLemmas.{uses_reads}
 
 -- ---- places in lists
 
@@ -85,7 +87,7 @@ module _ (may counted : List ℕ → Type 0) (a b : Seen) (slots : List ℕ) (to
 -- ---- a turn
 
 -- inputs that stayed open, while some of them were read
-module _ (a b : Seen) (ins ins' : List Input) (are : AreInputs a (slots_of ins)) (touches : Touches Nothing (NameIn a (slots_of ins)) a b) (slots : slots_of ins' ≡ slots_of ins) where
+module _ (a b : Seen) (ins ins' : List Input) (are : AreInputs a (slots_of ins)) (uses : Uses (NameIn a (slots_of ins)) Nothing Said a b) (slots : slots_of ins' ≡ slots_of ins) where
   slot_now : (q : ℕ) (i : Input) → slice_get ins' q ≡ Some i → slot_at (slots_of ins) q ≡ i.slot
   slot_now q i at = ap (λ l. slot_at l q) (sym slots) ∙ slot_is ins' q i at
 
@@ -95,24 +97,22 @@ module _ (a b : Seen) (ins ins' : List Input) (are : AreInputs a (slots_of ins))
   pub open_now : (q : ℕ) (i : Input) → slice_get ins' q ≡ Some i → IsTrue (b.input i.slot)
   open_now q i at =
       let own = are.inputs q (within q i at) in
-      subst (λ (n : ℕ). IsTrue (b.input n)) (slot_now q i at) (subst IsTrue (sym (touches.slots (slot_at (slots_of ins) q) (inl own)).input) own)
+      subst (λ (n : ℕ). IsTrue (b.input n)) (slot_now q i at) (subst IsTrue (sym (uses.touches.slots (slot_at (slots_of ins) q) (inl own)).input) own)
 
   name_now : (q : ℕ) (i : Input) → slice_get ins' q ≡ Some i → b.name i.slot ≡ name_of a (slots_of ins) q
   name_now q i at =
       let own = are.inputs q (within q i at) in
-      subst (λ (n : ℕ). b.name n ≡ name_of a (slots_of ins) q) (slot_now q i at) (touches.slots (slot_at (slots_of ins) q) (inl own)).name
+      subst (λ (n : ℕ). b.name n ≡ name_of a (slots_of ins) q) (slot_now q i at) (uses.touches.slots (slot_at (slots_of ins) q) (inl own)).name
 
   -- one of them is read
   module _ (k : ℕ) (i : Input) (at : slice_get ins' k ≡ Some i) (d : Seen) where
-    pub touches_on : Reads (b.name i.slot) b d → Touches Nothing (NameIn a (slots_of ins)) a d
-    touches_on reads =
-        touches_trans Nothing (NameIn a (slots_of ins)) a b d touches
-        (touches_wider Nothing (Only (b.name i.slot)) Nothing (NameIn a (slots_of ins)) b d (λ m none. none) (λ m e. (k, within k i at, e ∙ name_now k i at)) (reads_touches (b.name i.slot) b d reads))
+    pub uses_on : {end : End} → Uses (Only (b.name i.slot)) Nothing end b d → Uses (NameIn a (slots_of ins)) Nothing end a d
+    uses_on {end} more =
+        uses_then (NameIn a (slots_of ins)) Nothing end a b d uses
+        (uses_wider (Only (b.name i.slot)) Nothing (NameIn a (slots_of ins)) Nothing (λ m e. (k, within k i at, e ∙ name_now k i at)) (λ m none. none) end b d more)
 
     -- what the others have still to read
-    pub others_left : Reads (b.name i.slot) b d → (q : ℕ) (j : Input) → q ≢ k → slice_get ins' q ≡ Some j → d.left j.slot ≡ b.left j.slot
-    others_left reads q j ne at_q = reads.keeps.left j.slot (open_now q j at_q) (λ e. ne (are.differ q k (within q j at_q) (within k i at) (sym (name_now q j at_q) ∙ e ∙ name_now k i at)))
-
-    -- a count that rose in this turn rose in all
-    pub rose_on : Rose (b.read_faults (b.name i.slot)) (d.read_faults (b.name i.slot)) → Rose (a.read_faults (name_of a (slots_of ins) k)) (d.read_faults (name_of a (slots_of ins) k))
-    rose_on rose = rose_later _ _ _ (touches.reads_rise (name_of a (slots_of ins) k)) (subst (λ n. Rose (b.read_faults n) (d.read_faults n)) (name_now k i at) rose)
+    pub others_left : {end : End} → Uses (Only (b.name i.slot)) Nothing end b d → (q : ℕ) (j : Input) → q ≢ k → slice_get ins' q ≡ Some j → d.left j.slot ≡ b.left j.slot
+    others_left {end} more q j ne at_q =
+        (uses_reads (b.name i.slot) end b d more).keeps.left j.slot (open_now q j at_q)
+        (λ e. ne (are.differ q k (within q j at_q) (within k i at) (sym (name_now q j at_q) ∙ e ∙ name_now k i at)))

@@ -36,7 +36,7 @@ pub walked_first : (c : Settings) (start looked : Start) (v : Vec Shelf Global) 
 walked_first c start looked v f o next =
     let count = f.count ∙ sym (same_length start.ins looked.ins f.slots) in
     record {
-      told = f.touches.told;
+      told = f.uses.touches.told;
       slots = f.slots;
       count = count;
       ready = f.ready;
@@ -106,11 +106,11 @@ module _ (c : Settings) (start : Start) (w first : ℕ) (taken : List (List Reco
   walked_on new t =
       let ports = same_length walk.ins new.ins t.slots in
       record {
-        told = t.touches.told ∙ h.told;
+        told = t.uses.touches.told ∙ h.told;
         slots = t.slots ∙ h.slots;
         count = t.count ∙ h.count ∙ sym ports;
         ready = t.ready;
-        read = reads_on c w (opened_in start.seen start.ins) taken walk new t.touches.told ports t.count h.read t.took;
+        read = reads_on c w (opened_in start.seen start.ins) taken walk new t.uses.touches.told ports t.count h.read t.took;
         spent = spends_both h.spent t.spent;
         stops = λ told. h.stops told ∙ t.looks (tells_on told);
       }

@@ -1,8 +1,8 @@
 -- The looks at the first records, and which window comes next.
-use Rattle.std.specs.Prelude.{◌≡◌, ◌≢◌, ℕ, ◌≤◌, ◌<◌, IsTrue, List, [], ◌∷◌, length, map, Option, Some, None, IfSome, Result, IfOk, OnErr, IfErr, IsErrOf, option_to_list, slice_get, Vec}
+use Rattle.std.specs.Prelude.{◌≡◌, ◌≢◌, ℕ, ◌≤◌, IsTrue, List, [], ◌∷◌, length, map, Option, Some, None, IfSome, Result, IfOk, OnErr, IfErr, option_to_list, slice_get, Vec}
 use Rattle.std.specs.declared.alloc.Global.{Global}
-use Rattle.fab_base.specs.Ending.{end_by, SparesReads}
-use Rattle.fab_base.specs.Seen.{Seen, Reads, Rose, Touches, Nothing, SameWriteFaults}
+use Rattle.fab_base.specs.Ending.{end_by, Uses}
+use Rattle.fab_base.specs.Seen.{Seen, Nothing, Only}
 use Rattle.fab_config.specs.Settings.{Settings}
 use Rattle.fab_policy.specs.Legal.{window_start}
 use Rattle.fab_gather.specs.Looks.{Opened, Look, look_at, looks, first_spot, in_order, first_window, stop_in, Stop, stop}
@@ -17,7 +17,7 @@ use Rattle.pcap_file.specs.declared.fault.GatherFault.{GatherFault}
 use Rattle.pcap_file.specs.declared.fault.GatherFault.TheVariants as fault
 use Rattle.pcap_file.specs.Faults.{gather_end, IsStopped}
 use Rattle.fab_gather.specs.Port.{IsReady, Spends, Gave, KeepsFault, place_behind, to_look, ending}
-use Rattle.fab_base.specs.Slots.{name_of, NameIn}
+use Rattle.fab_base.specs.Slots.{NameIn}
 use Rattle.fab_gather.specs.Ports.{OneKeeps, slots_of, TakesFrom, rests, joined, stop_from, AreReady, counts_of}
 use Rattle.fab_gather.specs.Reads.{HaveRead}
 
@@ -82,13 +82,11 @@ pub record LeavesFirst (a b : Seen) (i i' : Input) : Type 0 where
 
 -- What looking at the first record of one port does.
 pub record LooksOnce (c : Settings) (port slot : ℕ) (old new : ReaderStand) (result : Result Shelf GatherFault) : Type 0 where
-  pub reads : Reads (old.depot.name slot) old.depot new.depot
+  pub uses : Uses (Only (old.depot.name slot)) Nothing (end_by gather_end result) old.depot new.depot
   pub looked : IfOk result (λ s. Looked c port slot old new s)
   pub stops : IsTrue old.depot.told → IfErr result (λ e. IsStopped e → StopsFirst c port (opened_at slot old) old.budget e)
   pub leaves : OnErr result (Gave slot old.depot new.depot old.reader new.reader [] × (new.budget ≡ old.budget))
   pub fails : IfErr result (KeepsFault port new.reader)
-  pub cause : IsErrOf result fault.Read → Rose (old.depot.read_faults (old.depot.name slot)) (new.depot.read_faults (old.depot.name slot))
-  pub counts : SparesReads (end_by gather_end result) old.depot new.depot
 
 -- where captures stand before they have shelves: the store, the captures, and what is left of the limits
 pub record Start : Type 0 where
@@ -102,7 +100,7 @@ start_at seen ins left = record { seen = seen; ins = ins; left = left }
 -- What looking at the first record of each port does: after it the looks to come stop where all looks do, or it ends as the
 -- first stop says, which has no window.
 pub record LooksFirst (c : Settings) (old new : Start) (result : Result (Vec Shelf Global) GatherFault) : Type 0 where
-  pub touches : Touches Nothing (NameIn old.seen (slots_of old.ins)) old.seen new.seen
+  pub uses : Uses (NameIn old.seen (slots_of old.ins)) Nothing (end_by gather_end result) old.seen new.seen
   pub slots : slots_of new.ins ≡ slots_of old.ins
   pub count : IfOk result (λ v. length v.items ≡ length old.ins)
   pub ready : IfOk result (λ v. AreReady c 0 new.ins v.items new.left)
@@ -117,10 +115,6 @@ pub record LooksFirst (c : Settings) (old new : Start) (result : Result (Vec She
   pub fails : IfErr result (λ e. e ≢ fault.Memory → OneKeeps new.ins e)
   pub found : (found : ℕ) × Spends old.left new.left 0 found
   pub takes : TakesFrom old.ins new.ins old.left new.left
-  pub cause : IsErrOf result fault.Read →
-      (q : ℕ) × (q < length old.ins) × Rose (old.seen.read_faults (name_of old.seen (slots_of old.ins) q)) (new.seen.read_faults (name_of old.seen (slots_of old.ins) q))
-  pub counts : SparesReads (end_by gather_end result) old.seen new.seen
-  pub writes : SameWriteFaults old.seen new.seen
 
 -- ---- which window comes next
 

@@ -1,7 +1,7 @@
 -- The records of a window, taken of one port's capture.
-use Rattle.std.specs.Prelude.{◌≡◌, ◌≢◌, ℕ, ◌+◌, ◌-◌, ◌*◌, ◌^◌, ◌≤◌, ◌<◌, ◌⊎◌, Bool, false, IsTrue, List, [], ◌∷◌, ◌++◌, length, Option, Some, None, IfSome, Result, OnOk, OnErr, IfErr, IsErrOf, option_to_list, nat_lt, ◌==◌}
-use Rattle.fab_base.specs.Ending.{end_by, SparesReads}
-use Rattle.fab_base.specs.Seen.{Seen, Reads, Rose, SameReadFaults}
+use Rattle.std.specs.Prelude.{◌≡◌, ◌≢◌, ℕ, ◌+◌, ◌-◌, ◌*◌, ◌^◌, ◌≤◌, ◌<◌, ◌⊎◌, Bool, false, IsTrue, List, [], ◌∷◌, ◌++◌, length, Option, Some, None, IfSome, Result, OnOk, OnErr, IfErr, option_to_list, nat_lt, ◌==◌}
+use Rattle.fab_base.specs.Ending.{Said, end_by, Uses}
+use Rattle.fab_base.specs.Seen.{Seen, Nothing, Only}
 use Rattle.fab_config.specs.Settings.{Settings}
 use Rattle.fab_policy.specs.Legal.{window_start}
 use Rattle.fab_gather.specs.Looks.{Spot, Look, looks, stop_in, Stop, Reason, Fails, Span, MOST_SPAN}
@@ -101,7 +101,7 @@ bytes_from slot at = to_come at.reader at.seen slot
 -- What stands while the records of a window are taken of one port: which are on the shelf, which the reader gave, and which
 -- looks were made.
 pub record Taking (c : Settings) (port w slot : ℕ) (old new : PortWalk) : Type 0 where
-  pub reads : Reads (old.seen.name slot) old.seen new.seen
+  pub uses : Uses (Only (old.seen.name slot)) Nothing Said old.seen new.seen
   pub ready : IsReady new.reader new.shelf.next new.shelf.count new.left
   pub spent : Spends old.left new.left old.shelf.count new.shelf.count
   pub in_window : AreIn c w new.shelf.batch.items
@@ -116,7 +116,6 @@ pub record Taking (c : Settings) (port w slot : ℕ) (old new : PortWalk) : Type
   pub onward : old.reader.greatest ≤ new.reader.greatest
   pub ended : IsTrue old.seen.told → old.shelf.next ≢ None → new.shelf.next ≡ None → bytes_from slot new ≡ []
   pub looks : IsTrue old.seen.told → (made : List Look) × (looks_from c port slot old ≡ made ++ looks_from c port slot new) × AreOf port w made × Pass w made old.left new.left
-  pub counts : SameReadFaults old.seen new.seen
 
 -- The looks come to one that fails, and the ending says so.
 pub record StopsIn (port w : ℕ) (had : Budget) (looks : List Look) (e : GatherFault) : Type 0 where
@@ -169,12 +168,10 @@ port_stand slot at = record { seen = at.seen; input = record { slot = slot; read
 
 -- What taking the records of a window of one port does.
 pub record TakesWindow (c : Settings) (port w slot : ℕ) (old new : PortWalk) (result : Result (Unit {0}) GatherFault) : Type 0 where
-  pub reads : Reads (old.seen.name slot) old.seen new.seen
+  pub uses : Uses (Only (old.seen.name slot)) Nothing (end_by gather_end result) old.seen new.seen
   pub taking : OnOk result (Taking c port w slot old new)
   pub beyond : OnOk result (IfSome new.shelf.next (λ x. window_start c x.moment ≢ w))
   pub stops : IsTrue old.seen.told → IfErr result (λ e. IsStopped e → StopsIn port w old.left (looks_from c port slot old) e)
   pub leaves : OnErr result (LeavesPort c w (port_stand slot old) (port_stand slot new) × Spends old.left new.left old.shelf.count new.shelf.count)
   pub in_span : IfErr result (λ e. e ≢ fault.Limit limit.Span)
   pub fails : IfErr result (λ e. e ≢ fault.Memory → KeepsFault port new.reader e)
-  pub cause : IsErrOf result fault.Read → Rose (old.seen.read_faults (old.seen.name slot)) (new.seen.read_faults (old.seen.name slot))
-  pub counts : SparesReads (end_by gather_end result) old.seen new.seen

@@ -1,5 +1,5 @@
 -- The records of a window, taken of all ports in their order.
-use Rattle.std.specs.Prelude.{◌≡◌, ℕ, ◌+◌, ◌≤◌, ◌<◌, IsTrue, List, [], ◌∷◌, ◌++◌, length, map, Option, Some, None, IfSome, option_to_list, slice_get, slice_index}
+use Rattle.std.specs.Prelude.{◌≡◌, ℕ, ◌+◌, ◌≤◌, ◌<◌, IsTrue, List, [], ◌∷◌, ◌++◌, length, map, Option, Some, None, IfSome, option_to_list, slice_get}
 use Rattle.fab_base.specs.Seen.{Seen}
 use Rattle.fab_base.specs.Slots.{slot_at, name_of}
 use Rattle.fab_config.specs.Settings.{Settings}

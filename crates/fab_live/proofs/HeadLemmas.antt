@@ -15,6 +15,7 @@ use Rattle.run_files.specs.Pages.{piece_at}
 use Rattle.run_files.proofs.OutputLemmas.{stays_named, same_name}
 use Rattle.fab_windows.specs.Files.{Written, Hold, Pending, Writes, captures}
 use Rattle.fab_windows.specs.Turns.{Laws}
+use Rattle.fab_windows.proofs.UsesLemmas.{writing_touches}
 use Rattle.fab_live.specs.declared.fault.LiveFault.{LiveFault}
 use Rattle.fab_live.specs.declared.fault.LiveFault.TheVariants as fault
 use Rattle.fab_live.specs.Files.{LiveSlots, LiveNames, AreLive, Came, CameSome}
@@ -114,7 +115,7 @@ module _ (laws : Laws) (c : Settings) (f : LiveSlots) (a : Seen) (g : AreLive a 
 
       module _ {z : Result (Unit {0}) Failed} (w : Writes f.journal f.outs p.lines p.pieces b d z) where
         second : Touches F F b d
-        second = touches_wider (Written b f.journal f.outs) (Written b f.journal f.outs) F F b d (λ m x. inr (written_before f F F a b g (first each) m x)) (λ m x. inr (written_before f F F a b g (first each) m x)) w.touches
+        second = touches_wider (Written b f.journal f.outs) (Written b f.journal f.outs) F F b d (λ m x. inr (written_before f F F a b g (first each) m x)) (λ m x. inr (written_before f F F a b g (first each) m x)) (writing_touches (Written b f.journal f.outs) b d w.uses)
 
         pub all_touch : Touches F F a d
         all_touch = touches_trans F F a b d (first each) second
@@ -124,7 +125,7 @@ module _ (laws : Laws) (c : Settings) (f : LiveSlots) (a : Seen) (g : AreLive a 
 
         came_d : IsTrue a.told → Came d f.ins (λ q. head_bytes ++ [])
         came_d told q lt =
-            moved d (sym (same_name F F b d second f.ins (live_b each).ins_ q lt)) (w.touches.files (name_of b f.ins q) (λ x. (live_b each).apart (name_of b f.ins q) (q, lt, refl) x) ∙ came_b told q lt)
+            moved d (sym (same_name F F b d second f.ins (live_b each).ins_ q lt)) (w.uses.touches.files (name_of b f.ins q) (λ x. (live_b each).apart (name_of b f.ins q) (q, lt, refl) x) ∙ came_b told q lt)
 
       told_from : {z : Result (Unit {0}) Failed} → Writes f.journal f.outs p.lines p.pieces b d z → IsTrue d.told → IsTrue a.told
       told_from w told = subst IsTrue (all_touch w).told told
@@ -206,7 +207,7 @@ module _ (laws : Laws) (f : LiveSlots) (a : Seen) (g : AreLive a f) (empty : IsT
         broken = λ c. (tt, files_failed laws c f a g hold_ came_ pieces heads_ b each p p_lines p_pieces d e w);
         counts = (
           writes_rose f (LiveNames a f) (LiveNames a f) a b g (heads_touch laws c f a g hold_ came_ pieces heads_ b each) p.lines p.pieces d e each.counts w,
-          λ m. w.reads m ∙ each.reads m,
+          λ m. w.uses.counts.1 m ∙ each.reads m,
         );
       }
 
@@ -216,7 +217,7 @@ module _ (laws : Laws) (f : LiveSlots) (a : Seen) (g : AreLive a f) (empty : IsT
         files = live_d laws c f a g hold_ came_ pieces heads_ b each p p_lines p_pieces d w;
         whole = λ c. files_written laws c f a g hold_ came_ pieces heads_ b each p p_lines p_pieces d w;
         broken = λ c. tt;
-        counts = none_then a b d (each.reads, each.counts) (w.reads, w.counts);
+        counts = none_then a b d (each.reads, each.counts) w.uses.counts;
       }
 
 -- the same of another kind of answer

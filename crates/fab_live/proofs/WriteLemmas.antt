@@ -14,6 +14,7 @@ use Rattle.run_files.specs.Pages.{piece_at}
 use Rattle.run_files.proofs.OutputLemmas.{stays_named, same_name, outputs_stay}
 use Rattle.fab_windows.specs.Files.{Written, Hold, Pending, Writes}
 use Rattle.fab_windows.proofs.FileLemmas.{files_stay}
+use Rattle.fab_windows.proofs.UsesLemmas.{writing_touches}
 use Rattle.fab_windows.proofs.ResultLemmas.{err_is}
 use Rattle.fab_live.specs.declared.fault.LiveFault.{LiveFault}
 use Rattle.fab_live.specs.declared.fault.LiveFault.TheVariants as fault
@@ -54,10 +55,7 @@ module _ (f : LiveSlots) (F G : List ℕ → Type 0) (a b : Seen) (g : AreLive a
   rose_from same m named rose = (m, inr (written_before f F G a b g k m named), subst (λ (n : ℕ). Rose n (d.write_faults m)) (same m) rose)
 
   pub writes_rose : (e : Failed) → SameWriteFaults a b → Writes f.journal f.outs lines pieces b d (Err e) → (m : List ℕ) × LiveNames a f m × Rose (a.write_faults m) (d.write_faults m)
-  writes_rose e same w = elim w.cause [
-    | inl early ↦ rose_from same (b.name f.journal) (inl refl) early.rose
-    | inr late ↦ rose_from same (name_of b f.outs late.port) (inr (late.port, late.fails.within, refl)) late.fails.rose
-  ]
+  writes_rose e same w = let rose = w.uses.counts.0 in rose_from same rose.0 rose.1 rose.2
 
 module _ (f : LiveSlots) (place : ℕ) (within : place < length f.ins) (piece : List ℕ) (a b : Seen) (g : AreLive a f) where
   abbrev F : List ℕ → Type 0
@@ -129,7 +127,7 @@ module _ (f : LiveSlots) (place : ℕ) (within : place < length f.ins) (piece : 
   module _ (p : Pending) (d : Seen) (puts : PutsAll {T = Unit {0}} {E = Failed} slot piece a b (Ok tt)) where
     module _ {z : Result (Unit {0}) Failed} (w : Writes f.journal f.outs p.lines p.pieces b d z) where
       second : Touches F F b d
-      second = touches_wider (Written b f.journal f.outs) (Written b f.journal f.outs) F F b d (λ m x. inr (written_before f F F a b g (first puts) m x)) (λ m x. inr (written_before f F F a b g (first puts) m x)) w.touches
+      second = touches_wider (Written b f.journal f.outs) (Written b f.journal f.outs) F F b d (λ m x. inr (written_before f F F a b g (first puts) m x)) (λ m x. inr (written_before f F F a b g (first puts) m x)) (writing_touches (Written b f.journal f.outs) b d w.uses)
 
       both : Touches F F a d
       both = touches_trans F F a b d (first puts) second
@@ -142,7 +140,7 @@ module _ (f : LiveSlots) (place : ℕ) (within : place < length f.ins) (piece : 
 
       came_d : (v : ℕ → List ℕ) → Came b f.ins v → Came d f.ins v
       came_d v came q lt =
-          moved d (sym (in_d q lt)) (w.touches.files (name_of b f.ins q) (λ x. (live_b puts).apart (name_of b f.ins q) (q, lt, refl) x) ∙ came q lt)
+          moved d (sym (in_d q lt)) (w.uses.touches.files (name_of b f.ins q) (λ x. (live_b puts).apart (name_of b f.ins q) (q, lt, refl) x) ∙ came q lt)
 
       told_b : IsTrue a.told → IsTrue b.told
       told_b told = subst IsTrue (sym (first puts).told) told
@@ -156,7 +154,7 @@ module _ (f : LiveSlots) (place : ℕ) (within : place < length f.ins) (piece : 
       files = live_d w;
       whole = λ told l l' r r' v v' h came is more grows. (w.whole (told_b w told) l l' r r' (hold_b puts l r h) is more, came_d w v' (came_all puts told v v' came grows));
       front = λ told l l' r r' v v' h came is more grows. (w.front (told_b w told) l l' r r' (hold_b puts l r h) is more, some_of w v' (came_d w v' (came_all puts told v v' came grows)), inl (came_d w v' (came_all puts told v v' came grows)));
-      counts = none_then a b d (puts.reads, puts.counts) (w.reads, w.counts);
+      counts = none_then a b d (puts.reads, puts.counts) w.uses.counts;
     }
 
     pub packet_failed : (e : Failed) → Writes f.journal f.outs p.lines p.pieces b d (Err e) → WritesPacket f place piece p a d (Err fault.Write)
@@ -165,5 +163,5 @@ module _ (f : LiveSlots) (place : ℕ) (within : place < length f.ins) (piece : 
       files = live_d w;
       whole = λ told l l' r r' v v' h came is more grows. tt;
       front = λ told l l' r r' v v' h came is more grows. (w.front (told_b w told) l l' r r' (hold_b puts l r h) is more, some_of w v' (came_d w v' (came_all puts told v v' came grows)), inl (came_d w v' (came_all puts told v v' came grows)));
-      counts = (writes_rose f F F a b g (first puts) p.lines p.pieces d e puts.counts w, λ m. w.reads m ∙ puts.reads m);
+      counts = (writes_rose f F F a b g (first puts) p.lines p.pieces d e puts.counts w, λ m. w.uses.counts.1 m ∙ puts.reads m);
     }

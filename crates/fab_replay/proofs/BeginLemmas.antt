@@ -1,7 +1,8 @@
 -- How a check begins, before the first window.
-use Rattle.std.proofs.Common.{◌≡◌, ℕ, zero, suc, ◌<◌, ◌≤◌, List, [], ◌∷◌, ◌++◌, length, map, drop, slice_get, Option, Some, IfSome, Ok, Err, refl, sym, ap, ◌∙◌, subst, arith}
+use Rattle.std.proofs.Common.{◌≡◌, ℕ, zero, suc, ◌<◌, ◌≤◌, List, [], ◌∷◌, ◌++◌, length, map, drop, slice_get, Option, Some, IfSome, Ok, Err, refl, sym, ap, ◌∙◌, subst}
 use Rattle.std.specs.Prelude.{unwrap_or, Vec}
 use Rattle.std.specs.declared.alloc.Global.{Global}
+use Rattle.fab_base.specs.Ending.{End, Uses}
 use Rattle.fab_base.specs.Seen.{Touches, Nothing}
 use Rattle.fab_base.proofs.SeenLemmas.{touches_wider}
 use Rattle.fab_config.specs.Settings.{Settings}
@@ -13,11 +14,12 @@ use Rattle.pcap_file.specs.declared.Record.{Record}
 use Rattle.fab_gather.specs.declared.shelf.Input.{Input}
 use Rattle.fab_gather.specs.declared.shelf.Shelf.{Shelf}
 use Rattle.pcap_file.specs.declared.fault.GatherFault.{GatherFault}
+use Rattle.pcap_file.specs.Faults.{gather_end}
 use Rattle.fab_gather.specs.First.{IsNextWindow, LooksFirst, Start}
 use Rattle.fab_base.specs.Slots.{NameIn}
 use Rattle.fab_gather.specs.Ports.{AreInputs, slots_of, walk_at}
 use Rattle.fab_gather.specs.Walked.{Walked}
-use Rattle.fab_gather.proofs.SlotLemmas.{length-slots}
+use Rattle.fab_gather.proofs.UsesLemmas.{rose_at, uses_rose, uses_touches}
 use Rattle.fab_gather.proofs.WalkedLemmas.{walked_first}
 use Rattle.fab_replay.specs.Lines.{IsBehind, IsInside, text_in}
 use Rattle.fab_replay.specs.Owed.{AreNew}
@@ -40,12 +42,15 @@ course_at first p o = record { first = first; place = p; owed = o }
 
 module _ (k : Task) (looked : Start) (F : Contents) (p : Place)
     (inputs : AreInputs k.start.seen (slots_in k)) (ports : length k.start.ins ≤ 64) where
-  wider : Touches Nothing (NameIn k.start.seen (slots_of k.start.ins)) k.start.seen looked.seen → Touches Nothing (OfTask k) k.start.seen looked.seen
-  wider t = touches_wider Nothing (NameIn k.start.seen (slots_of k.start.ins)) Nothing (OfTask k) k.start.seen looked.seen (λ m h. h) (in_front (slots_of k.start.ins) k.outs k.start.seen) t
+  abbrev Ins : List ℕ → Type 0
+  Ins = NameIn k.start.seen (slots_of k.start.ins)
+
+  wider : {end : End} → Uses Ins Nothing end k.start.seen looked.seen → Touches Nothing (OfTask k) k.start.seen looked.seen
+  wider u = touches_wider Nothing Ins Nothing (OfTask k) k.start.seen looked.seen (λ m h. h) (in_front (slots_of k.start.ins) k.outs k.start.seen) (uses_touches Ins k.start.seen looked.seen u)
 
   ended_looks : (e : GatherFault) → LooksFirst k.settings k.start looked (Err e) → IsBehind k.bytes p [] → Ended k looked.seen (check_fault e)
   ended_looks e f behind =
-      ended_gather k looked.seen (wider f.touches) e
+      ended_gather k looked.seen (wider f.uses) e
       (λ told stopped.
       let s = f.stops told stopped in
       record {
@@ -61,8 +66,8 @@ module _ (k : Task) (looked : Start) (F : Contents) (p : Place)
         all = holds_nothing k.settings s.0 1 (all_records (captures_in k)) s.3;
       })
       (λ is.
-      let cause = f.cause (ap (λ y. Err y) is) in
-      rose_front (slots_of k.start.ins) k.outs k.start.seen looked.seen (cause.0, (let lt = cause.1 in omega (arith, lt, length-slots k.start.ins)), cause.2))
+      rose_front (slots_of k.start.ins) k.outs k.start.seen looked.seen
+      (rose_at k.start.seen (slots_of k.start.ins) k.start.seen.read_faults looked.seen.read_faults (uses_rose Ins k.start.seen looked.seen f.uses (ap gather_end is))))
 
   left_looks : (e : GatherFault) → LooksFirst k.settings k.start looked (Err e) → IsAlong (scene_of k) k.start.seen.told [] F p → LeftBy k F (check_fault e)
   left_looks e f along = left_stopped k [] F p along e (λ told stopped. let s = f.stops told stopped in record { at = s.0; is = s.1; all = holds_nothing k.settings s.0 1 (all_records (captures_in k)) s.3 })
@@ -87,7 +92,7 @@ module _ (k : Task) (looked : Start) (F : Contents) (p : Place)
           ports = ports;
           outputs = outputs;
           many = new.many;
-          touches = wider f.touches;
+          touches = wider f.uses;
           taken = map (λ i. []) k.start.ins;
           walked = subst (λ (n : ℕ). Walked k.settings k.start 0 n (map (λ i. []) k.start.ins) (walk_at looked.seen looked.ins s.items looked.left)) (sym first_is_)
               (walked_first k.settings k.start looked s f v (subst (λ c. IsNextWindow c s.items v) same (subst (λ t. IsNextWindow c t v) l_is next)));
@@ -107,6 +112,6 @@ module _ (k : Task) (looked : Start) (F : Contents) (p : Place)
               count = counted ∙ sym (length-scene k);
             },
             λ q records at. lines_none k.start.ins q records at,
-            owed_first k.settings (length (scene_of k).records) k.start.seen looked.seen k.outs o new (left_back (slots_of k.start.ins) k.outs k.start.seen inputs looked.seen f.touches),
+            owed_first k.settings (length (scene_of k).records) k.start.seen looked.seen k.outs o new (left_back (slots_of k.start.ins) k.outs k.start.seen inputs looked.seen (uses_touches Ins k.start.seen looked.seen f.uses)),
           );
         }

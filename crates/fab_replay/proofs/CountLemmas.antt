@@ -1,12 +1,13 @@
 -- What is counted along a check.
-use Rattle.std.proofs.Common.{◌≡◌, Result, refl, sym, ap, ◌∙◌, subst}
+use Rattle.std.proofs.Common.{◌≡◌, ℕ, List, Result, refl, sym, ap, ◌∙◌, subst}
 use Rattle.std.specs.Result.{IsErrAnd}
-use Rattle.fab_base.specs.Ending.{NoFaults, end_by, SparesReads}
-use Rattle.fab_base.specs.Seen.{Seen, SameWriteFaults}
+use Rattle.fab_base.specs.Ending.{NoFaults, end_by, SparesReads, Uses}
+use Rattle.fab_base.specs.Seen.{Seen, Nothing, SameWriteFaults}
 use Rattle.fab_base.proofs.EndingLemmas.{spares_none, spares_reads_then}
 use Rattle.pcap_file.specs.Faults.{gather_end}
 use Rattle.pcap_file.specs.declared.fault.GatherFault.{GatherFault}
 use Rattle.pcap_file.specs.declared.fault.GatherFault.TheVariants as gather_fault
+use Rattle.fab_gather.proofs.UsesLemmas.{uses_spares, uses_writes}
 use Rattle.fab_replay.specs.Counts.{check_end}
 use Rattle.fab_replay.specs.Windows.{check_fault}
 use Rattle.fab_replay.specs.declared.fault.CheckFault.{CheckFault}
@@ -31,5 +32,5 @@ same_end (gather_fault.Limit kind) = refl
 same_end gather_fault.Read = refl
 same_end gather_fault.Memory = refl
 
-pub counts_gathering : (a b : Seen) (f : GatherFault) (e : CheckFault) → e ≡ check_fault f → SparesReads (gather_end f) a b → SparesReads (check_end e) a b
-counts_gathering a b f e is spares = subst (λ end. SparesReads end a b) (sym (ap check_end is ∙ same_end f)) spares
+pub counts_gathering : (reads : List ℕ → Type 0) (a b : Seen) (f : GatherFault) (e : CheckFault) → e ≡ check_fault f → Uses reads Nothing (gather_end f) a b → SparesReads (check_end e) a b × SameWriteFaults a b
+counts_gathering reads a b f e is u = (subst (λ end. SparesReads end a b) (sym (ap check_end is ∙ same_end f)) (uses_spares reads (gather_end f) a b u), uses_writes reads (gather_end f) a b u)

@@ -2,6 +2,7 @@
 use Rattle.std.proofs.Common.{◌≡◌, ℕ, suc, ◌+◌, ◌^◌, ◌<◌, ◌≤◌, ◌⊎◌, inl, inr, Bool, false, List, [], ◌∷◌, ◌++◌, length, take, drop, slice_get, Option, Some, None, IfSome, IsTrue, Result, Ok, Err, IfErr, OnOk, MatchResult, refl, sym, ap, ◌∙◌, subst, arith}
 use Rattle.std.specs.List.{All}
 use Rattle.std.proofs.lemmas.List.{append-nil}
+use Rattle.fab_base.specs.Ending.{End, Uses}
 use Rattle.fab_base.specs.Seen.{Seen, Touches, Nothing}
 use Rattle.fab_base.proofs.SeenLemmas.{touches_refl, touches_trans, touches_wider}
 use Rattle.fab_config.specs.Settings.{Settings}
@@ -23,13 +24,14 @@ use Rattle.pcap_file.specs.declared.fault.GatherFault.{GatherFault}
 use Rattle.pcap_file.specs.declared.fault.GatherFault.TheVariants as gather_fault
 use Rattle.fab_gather.specs.First.{IsNextWindow, opened_in}
 use Rattle.fab_gather.specs.Gather.{Gathers}
-use Rattle.pcap_file.specs.Faults.{IsStopped}
+use Rattle.pcap_file.specs.Faults.{IsStopped, gather_end}
 use Rattle.fab_base.specs.Slots.{NameIn, slot_at}
 use Rattle.fab_gather.specs.Ports.{AreInputs, Walk, slots_of, walk_at}
 use Rattle.fab_gather.specs.Reads.{IsWhole, batches_of}
 use Rattle.fab_gather.specs.Walked.{Walked}
-use Rattle.fab_gather.proofs.SlotLemmas.{inputs_stay, length-slots, name_in, same_length}
+use Rattle.fab_gather.proofs.SlotLemmas.{inputs_stay, name_in, same_length}
 use Rattle.fab_gather.proofs.StayLemmas.{LeftStays, left_stays}
+use Rattle.fab_gather.proofs.UsesLemmas.{rose_at, uses_rose, uses_touches}
 use Rattle.fab_gather.proofs.WalkedLemmas.{next_later, next_soon, ports_on, tells_on, walked_ahead, walked_next, walked_on, walked_splits, walked_stays}
 use Rattle.fab_replay.specs.AllOutputs.{IsFirst, OneRose, page_at}
 use Rattle.fab_replay.specs.Check.{Checks, IsFirstStop, NamesRun, Says, sent_on, Task, captures_in, matter_of, slots_in}
@@ -183,8 +185,11 @@ module _ (laws : Laws) (k : Task) (w : ℕ) (here : Stand) (g : Going k w here) 
   name_now : (m : List ℕ) → NameIn d (slots_of ins) m → OfTask k m
   name_now m h = name_in Nothing (OfTask k) k.start.seen d (slots_in k) g.touches g.inputs m (in_front xs k.outs d m (subst (λ s. NameIn d s m) g.walked.slots h))
 
-  touches_on : (b : Seen) → Touches Nothing (NameIn d (slots_of ins)) d b → Touches Nothing (OfTask k) k.start.seen b
-  touches_on b t = touches_trans Nothing (OfTask k) k.start.seen d b g.touches (touches_wider Nothing (NameIn d (slots_of ins)) Nothing (OfTask k) d b (λ m h. h) name_now t)
+  abbrev Ins : List ℕ → Type 0
+  Ins = NameIn d (slots_of ins)
+
+  touches_on : (b : Seen) {end : End} → Uses Ins Nothing end d b → Touches Nothing (OfTask k) k.start.seen b
+  touches_on b u = touches_trans Nothing (OfTask k) k.start.seen d b g.touches (touches_wider Nothing Ins Nothing (OfTask k) d b (λ m h. h) name_now (uses_touches Ins d b u))
 
   taken_width : length g.taken ≡ length ins
   taken_width = (laws.read_below k.settings w (captures_in k) g.taken ins shelves d g.walked.read).0
@@ -256,7 +261,7 @@ module _ (laws : Laws) (k : Task) (w : ℕ) (here : Stand) (g : Going k w here) 
 
     ended_gathering : (e : GatherFault) → Gathers k.settings first w here.walk new (Err e) → Ended k b (check_fault e)
     ended_gathering e t =
-        ended_gather k b (touches_on b t.touches) e
+        ended_gather k b (touches_on b t.uses) e
         (λ told stopped.
         let s = t.stops (told_on told) stopped in
         let J = (g.lines told).0 in
@@ -271,8 +276,7 @@ module _ (laws : Laws) (k : Task) (w : ℕ) (here : Stand) (g : Going k w here) 
           all = kept_held J told h.front.frames own s.0 s.3;
         })
         (λ is.
-        let cause = t.cause (ap (λ y. Err y) is) in
-        let rose : OneRose (slots_of ins) d b = (cause.0, (let lt = cause.1 in omega (arith, lt, length-slots ins)), cause.2) in
+        let rose : OneRose (slots_of ins) d b = rose_at d (slots_of ins) d.read_faults b.read_faults (uses_rose Ins d b t.uses (ap gather_end is)) in
         rose_in_all (OfTask k) k.start.seen d g.touches (slots_in k) g.inputs b (rose_front xs k.outs d b (subst (λ s. OneRose s d b) g.walked.slots rose)))
 
     -- what the fabric stands for where that ends the check
@@ -316,7 +320,7 @@ module _ (laws : Laws) (k : Task) (w : ℕ) (here : Stand) (g : Going k w here) 
       -- ---- and checking its lines
 
       touches_b : Touches Nothing (OfTask k) k.start.seen b
-      touches_b = touches_on b t.touches
+      touches_b = touches_on b t.uses
 
       inputs_b : AreInputs b (slots_in k)
       inputs_b = inputs_stay Nothing (OfTask k) k.start.seen b (slots_in k) touches_b g.inputs
@@ -328,7 +332,7 @@ module _ (laws : Laws) (k : Task) (w : ℕ) (here : Stand) (g : Going k w here) 
       owed_now : (told : IsTrue k.start.seen.told) → IsOwed k.settings (length (scene_of k).records) k.start.seen b k.outs (g.lines told).0 o
       owed_now told =
           owed_stays k.settings (length (scene_of k).records) k.start.seen d k.outs (g.lines told).0 o g.many (g.lines told).3 b
-          (left_back xs k.outs d all_inputs b (subst (λ s. Touches Nothing (NameIn d s) d b) g.walked.slots t.touches))
+          (left_back xs k.outs d all_inputs b (subst (λ s. Touches Nothing (NameIn d s) d b) g.walked.slots (uses_touches Ins d b t.uses)))
 
       module _ (G : Contents) (to : Course) (e : Seen) where
         abbrev q : Place

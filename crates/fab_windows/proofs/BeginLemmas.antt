@@ -2,6 +2,7 @@
 use Rattle.std.proofs.Common.{◌≡◌, ℕ, suc, ◌+◌, ◌^◌, ◌<◌, ◌≤◌, inl, inr, List, [], ◌∷◌, ◌++◌, length, map, Option, Some, None, IfSome, IsTrue, Result, Ok, Err, refl, sym, ap, ◌∙◌, subst, arith}
 use Rattle.std.specs.Prelude.{unwrap_or, Vec}
 use Rattle.std.specs.declared.alloc.Global.{Global}
+use Rattle.fab_base.specs.Ending.{End, Uses}
 use Rattle.fab_base.specs.Seen.{Seen, Touches, Nothing, Rose}
 use Rattle.fab_base.specs.declared.values.Failed.{Failed}
 use Rattle.fab_base.proofs.EndingLemmas.{none_then, none_yet}
@@ -20,14 +21,16 @@ use Rattle.pcap_file.specs.declared.Record.{Record}
 use Rattle.fab_gather.specs.declared.shelf.Input.{Input}
 use Rattle.fab_gather.specs.declared.shelf.Shelf.{Shelf}
 use Rattle.pcap_file.specs.declared.fault.GatherFault.{GatherFault}
+use Rattle.pcap_file.specs.Faults.{gather_end}
 use Rattle.run_files.specs.Faults.{fault_from}
 use Rattle.run_files.specs.declared.fault.RunFault.{RunFault}
 use Rattle.run_files.specs.declared.fault.RunFault.TheVariants as fault
 use Rattle.fab_gather.specs.First.{IsNextWindow, LooksFirst, opened_in, start_at}
-use Rattle.fab_base.specs.Slots.{name_of, NameIn}
+use Rattle.fab_base.specs.Slots.{NameIn}
 use Rattle.fab_gather.specs.Ports.{slots_of, AreInputs, walk_at}
 use Rattle.fab_gather.specs.Walked.{Walked}
 use Rattle.fab_gather.proofs.SlotLemmas.{inputs_stay, length-slots, name_in}
+use Rattle.fab_gather.proofs.UsesLemmas.{uses_rose, uses_touches}
 use Rattle.fab_gather.proofs.StayLemmas.{LeftStays, opened_stay}
 use Rattle.fab_gather.proofs.WalkedLemmas.{next_later, next_soon, walked_before, walked_first, walked_next}
 use Rattle.fab_windows.specs.declared.Done.{Done}
@@ -37,8 +40,9 @@ use Rattle.fab_windows.specs.Pages.{IsNothing}
 use Rattle.fab_windows.specs.Run.{AreGiven, Runs, Stopped}
 use Rattle.fab_windows.specs.Turns.{Laws, Task, captures_in, start_of, Touched, Begun, Reached, Going, Ended, Finishes}
 use Rattle.fab_windows.proofs.EndLemmas.{whole_is_front, ends_before, stops_first, finished}
-use Rattle.fab_windows.proofs.PublishLemmas.{wholes_but_nothing, flushed_whole, flushed_part, write_cause}
+use Rattle.fab_windows.proofs.PublishLemmas.{wholes_but_nothing, flushed_whole, flushed_part}
 use Rattle.fab_windows.proofs.StayLemmas.{hold_stays, writing_leaves}
+use Rattle.fab_windows.proofs.UsesLemmas.{writing_touches}
 use Rattle.fab_windows.proofs.TurnLemmas.{stopped_from, read_from, no_write_from, gathering_spares, ended, ended_writing, files_now, reached_on}
 
 -- ---- the heads, and the first looks
@@ -71,10 +75,10 @@ module _ (laws : Laws) (k : Task) (given : AreGiven k.seen k.ins k.journal k.out
 
     module _ {r : Result (Unit {0}) Failed} (w : Writes k.journal k.outs head_line pieces k.seen a r) where
       touches_heads : Touches Ours (Touched k) k.seen a
-      touches_heads = touches_wider Ours Ours Ours (Touched k) k.seen a (λ m h. h) (λ m h. inl h) w.touches
+      touches_heads = touches_wider Ours Ours Ours (Touched k) k.seen a (λ m h. h) (λ m h. inl h) (writing_touches Ours k.seen a w.uses)
 
       lefts_heads : LeftStays k.seen a k.ins
-      lefts_heads = writing_leaves k.journal k.outs k.seen a k.ins w.touches given.inputs given.apart
+      lefts_heads = writing_leaves k.journal k.outs k.seen a k.ins w.uses given.inputs given.apart
 
     -- a head that can't be written
     pub ended_heads : (f : Failed) → Writes k.journal k.outs head_line pieces k.seen a (Err f) → Ended k a fault.Write
@@ -82,7 +86,7 @@ module _ (laws : Laws) (k : Task) (given : AreGiven k.seen k.ins k.journal k.out
         ended k a fault.Write (touches_heads w) (λ told x. absurd x) (λ told x. absurd (cc))
         (λ told x. ends_before k.settings k.budget (captures_in k) laws.nothing_run (Fronts k.settings a k.journal k.outs)
         (record { before = None; begins = tt; hold = w.front told [] (text []) (λ q. []) (captures k.settings (length k.outs) []) (hold_none told) laws.nothing_written.0 records_are }))
-        (λ x. absurd (cc), λ x. write_cause k.journal k.outs head_line pieces k.seen a f w, tt)
+        (λ x. absurd (cc), λ x. w.uses.counts.0, tt)
 
     module _ (w : Writes k.journal k.outs head_line pieces k.seen a (Ok tt)) (d : Seen) (ins : List Input) (left : Budget) where
       opened_then : opened_in a k.ins ≡ captures_in k
@@ -92,34 +96,37 @@ module _ (laws : Laws) (k : Task) (given : AreGiven k.seen k.ins k.journal k.out
       wholes_then told = w.whole told [] (text []) (λ q. []) (captures k.settings (length k.outs) []) (hold_none told) laws.nothing_written.0 records_are
 
       told_then : IsTrue k.seen.told → IsTrue a.told
-      told_then told = subst IsTrue (sym w.touches.told) told
+      told_then told = subst IsTrue (sym w.uses.touches.told) told
 
       name_then : (m : List ℕ) → NameIn a (slots_of k.ins) m → NameIn k.seen (slots_of k.ins) m
-      name_then m h = name_in Ours Ours k.seen a (slots_of k.ins) w.touches given.inputs m h
+      name_then m h = name_in Ours Ours k.seen a (slots_of k.ins) (writing_touches Ours k.seen a w.uses) given.inputs m h
 
-      module _ (t : Touches Nothing (NameIn a (slots_of k.ins)) a d) where
+      module _ {end : End} (t : Uses (NameIn a (slots_of k.ins)) Nothing end a d) where
+        touch : Touches Nothing (NameIn a (slots_of k.ins)) a d
+        touch = uses_touches (NameIn a (slots_of k.ins)) a d t
+
         touches_looks : Touches Ours (Touched k) k.seen d
-        touches_looks = touches_trans Ours (Touched k) k.seen a d (touches_heads w) (touches_wider Nothing (NameIn a (slots_of k.ins)) Ours (Touched k) a d (λ m x. absurd x) (λ m h. inr (name_then m h)) t)
+        touches_looks = touches_trans Ours (Touched k) k.seen a d (touches_heads w) (touches_wider Nothing (NameIn a (slots_of k.ins)) Ours (Touched k) a d (λ m x. absurd x) (λ m h. inr (name_then m h)) touch)
 
         wholes_looks : IsTrue k.seen.told → Wholes k.settings d k.journal k.outs []
-        wholes_looks told = hold_stays (NameIn a (slots_of k.ins)) a d t k.journal k.outs w.files (text []) (captures k.settings (length k.outs) []) (wholes_then told)
+        wholes_looks told = hold_stays (NameIn a (slots_of k.ins)) a d touch k.journal k.outs w.files (text []) (captures k.settings (length k.outs) []) (wholes_then told)
 
       -- a fault at the first looks
       pub ended_looks : (e : GatherFault) → LooksFirst k.settings (start_at a k.ins k.budget) (start_at d ins left) (Err e) → Ended k d (fault_from e)
       ended_looks e f =
-          ended k d (fault_from e) (touches_looks f.touches)
+          ended k d (fault_from e) (touches_looks f.uses)
           (λ told stops.
           let s = f.stops (told_then told) (stopped_from e stops) in
           subst (λ x. Stopped k.settings k.budget (captures_in k) d k.journal k.outs (fault_from x)) s.2
-          (stops_first k.settings k.budget (captures_in k) laws.nothing_run d k.journal k.outs s.0 (sym (ap (stop k.settings k.budget.bytes k.budget.frames) opened_then) ∙ s.1) s.3 (wholes_looks f.touches told)))
-          (λ told x. ends_before k.settings k.budget (captures_in k) laws.nothing_run (Wholes k.settings d k.journal k.outs) (wholes_looks f.touches told))
-          (λ told x. ends_before k.settings k.budget (captures_in k) laws.nothing_run (Fronts k.settings d k.journal k.outs) (whole_is_front k.settings d k.journal k.outs [] (wholes_looks f.touches told))) (
+          (stops_first k.settings k.budget (captures_in k) laws.nothing_run d k.journal k.outs s.0 (sym (ap (stop k.settings k.budget.bytes k.budget.frames) opened_then) ∙ s.1) s.3 (wholes_looks f.uses told)))
+          (λ told x. ends_before k.settings k.budget (captures_in k) laws.nothing_run (Wholes k.settings d k.journal k.outs) (wholes_looks f.uses told))
+          (λ told x. ends_before k.settings k.budget (captures_in k) laws.nothing_run (Fronts k.settings d k.journal k.outs) (whole_is_front k.settings d k.journal k.outs [] (wholes_looks f.uses told))) (
             λ x.
-                let cause = f.cause (ap (λ y. Err y) (read_from e x)) in
-                let at = name_then (name_of a (slots_of k.ins) cause.0) (cause.0, omega (arith, cause.1, length-slots k.ins), refl) in
-                (at.0, omega (arith, at.1, length-slots k.ins), rose_later _ _ _ (w.touches.reads_rise _) (subst (λ n. Rose (a.read_faults n) (d.read_faults n)) at.2 cause.2)),
+                let cause = uses_rose (NameIn a (slots_of k.ins)) a d f.uses (ap gather_end (read_from e x)) in
+                let at = name_then cause.0 cause.1 in
+                (at.0, omega (arith, at.1, length-slots k.ins), rose_later _ _ _ (w.uses.touches.reads_rise _) (subst (λ n. Rose (a.read_faults n) (d.read_faults n)) at.2 cause.2)),
             λ x. absurd (no_write_from e x),
-            gathering_spares e k.seen a d d (w.reads, w.counts) f.counts f.writes (none_yet d),
+            gathering_spares (NameIn a (slots_of k.ins)) e k.seen a d d w.uses.counts f.uses (none_yet d),
           )
 
       pub begun : (shelves : Vec Shelf Global) → (1 ≤ length k.ins) × (length k.ins ≤ 64) → length k.outs ≡ length k.ins → k.budget.bytes < 2 ^ 64 →
@@ -129,12 +136,12 @@ module _ (laws : Laws) (k : Task) (given : AreGiven k.seen k.ins k.journal k.out
         ports = ports;
         outputs = outputs;
         limits = limits;
-        touches = touches_looks f.touches;
-        faults = none_then k.seen a d (w.reads, w.counts) (f.counts, f.writes);
+        touches = touches_looks f.uses;
+        faults = none_then k.seen a d w.uses.counts f.uses.counts;
         walked = λ o next.
-            walked_before k.settings k.seen a k.ins k.budget 0 (unwrap_or o 0) (map (λ i. []) k.ins) (walk_at d ins shelves.items left) w.touches.told (lefts_heads w)
+            walked_before k.settings k.seen a k.ins k.budget 0 (unwrap_or o 0) (map (λ i. []) k.ins) (walk_at d ins shelves.items left) w.uses.touches.told (lefts_heads w)
             (walked_first k.settings (start_at a k.ins k.budget) (start_at d ins left) shelves f o next);
-        whole = wholes_looks f.touches;
+        whole = wholes_looks f.uses;
       }
 
 -- ---- before the first window
@@ -244,7 +251,7 @@ module _ (laws : Laws) (k : Task) (w first : ℕ) (F : Contents) (d : Seen) (ins
   -- what was still to be written is
   ended_well : Writes k.journal k.outs p.lines p.pieces d z (Ok tt) → Runs k.settings (start_at k.seen k.ins k.budget) z (file_slots k.journal k.outs) (Ok done)
   ended_well x =
-      let r = reached_on laws k w first F d ins shelves left g.reached z x.touches x.reads x.counts in
+      let r = reached_on laws k w first F d ins shelves left g.reached z x.uses x.uses.counts in
       record {
         touches = r.touches;
         ends = λ told.
@@ -259,9 +266,8 @@ module _ (laws : Laws) (k : Task) (w first : ℕ) (F : Contents) (d : Seen) (ins
   -- or can't be
   ended_broken : (f : Failed) → Writes k.journal k.outs p.lines p.pieces d z (Err f) → Ended k z fault.Write
   ended_broken f x =
-      ended_writing laws k w first F d ins shelves left g.reached z x.touches x.reads fault.Write tt
+      ended_writing laws k w first F d ins shelves left g.reached z fault.Write x.uses tt
       (λ told. flushed_part p k.settings d z k.journal k.outs g.reached.entry_list (told_end told) (g.files told) x)
-      (λ y. write_cause k.journal k.outs p.lines p.pieces d z f x) tt
 
   pub ended_by : (r : Result Done RunFault) → Finishes k.journal k.outs p done d z r → Runs k.settings (start_at k.seen k.ins k.budget) z (file_slots k.journal k.outs) r
   ended_by (Ok told) h = subst (λ x. Runs k.settings (start_at k.seen k.ins k.budget) z (file_slots k.journal k.outs) (Ok x)) (sym h.1) (ended_well h.0)
@@ -269,7 +275,7 @@ module _ (laws : Laws) (k : Task) (w first : ℕ) (F : Contents) (d : Seen) (ins
 
 -- the captures are still open when the heads are written
 pub inputs_heads : (d : Seen) (ins : List Input) (journal : ℕ) (outs : List ℕ) → AreGiven d ins journal outs → (b : Seen) {lines : List ℕ} {pieces : List (List ℕ)} {r : Result (Unit {0}) Failed} → Writes journal outs lines pieces d b r → AreInputs b (slots_of ins)
-inputs_heads d ins journal outs given b w = inputs_stay (Written d journal outs) (Written d journal outs) d b (slots_of ins) w.touches given.inputs
+inputs_heads d ins journal outs given b w = inputs_stay (Written d journal outs) (Written d journal outs) d b (slots_of ins) (writing_touches (Written d journal outs) d b w.uses) given.inputs
 
 -- the next window, by the code's own configuration and its own list of shelves
 pub next_as : (c d : Settings) (l shelves : List Shelf) (o : Option ℕ) → c ≡ d → l ≡ shelves → IsNextWindow c l o → IsNextWindow d shelves o

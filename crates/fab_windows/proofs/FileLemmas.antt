@@ -2,15 +2,17 @@
 use Rattle.std.proofs.Common.{◌≡◌, ℕ, ◌<◌, inl, inr, List, [], ◌++◌, length, take, drop, Option, Some, Ok, Err, IsTrue, refl, sym, ap, ◌∙◌, subst, arith, append_assoc}
 use Rattle.std.specs.Prelude.{Result}
 use Rattle.std.proofs.lemmas.List.{append-nil, take-append-drop}
-use Rattle.fab_base.specs.Ending.{IsPrefixOf}
-use Rattle.fab_base.specs.Seen.{Seen, Rose, PutsAll, Touches, Only}
+use Rattle.fab_base.specs.Ending.{Write, end_by, Uses, IsPrefixOf}
+use Rattle.fab_base.specs.Seen.{Seen, Rose, PutsAll, Touches, Nothing, Only}
 use Rattle.fab_base.specs.declared.values.Failed.{Failed}
-use Rattle.fab_base.proofs.SeenLemmas.{rose_later, touches_trans, touches_wider, keeps_touches}
+use Rattle.fab_base.proofs.EndingLemmas.{puts_all_uses, uses_then, uses_wider}
+use Rattle.fab_base.proofs.SeenLemmas.{rose_later, touches_wider}
 use Rattle.fab_base.specs.Slots.{name_of, NameIn}
 use Rattle.run_files.specs.Outputs.{AreOutputs, FailsAt, PutsEach}
 use Rattle.run_files.specs.Pages.{piece_at}
-use Rattle.run_files.proofs.OutputLemmas.{stays_output, stays_named, same_name, outputs_stay}
+use Rattle.run_files.proofs.OutputLemmas.{stays_output, stays_named, same_name, outputs_stay, puts_each_uses}
 use Rattle.fab_windows.specs.Files.{Hold, Written, AreFiles, Writes}
+use Rattle.fab_windows.proofs.UsesLemmas.{writing_touches}
 
 -- ---- the journal, and then the outputs
 
@@ -30,8 +32,8 @@ moved d {m} {n} {x} e h = subst (λ k. d.file k ≡ x) e h
 continued : (front back part : List ℕ) (n : ℕ) (whole : List ℕ) → whole ≡ front ++ back → part ≡ take n back → IsPrefixOf (front ++ part) whole
 continued front back part n whole is of = (drop n back, append_assoc front part (drop n back) ∙ ap (λ l. front ++ (l ++ drop n back)) of ∙ ap (λ l. front ++ l) (take-append-drop n back) ∙ sym is)
 
-pub first_touches : (journal : ℕ) (outs lines : List ℕ) (a b : Seen) {r : Result (Unit {0}) Failed} → PutsAll journal lines a b r → Touches (Written a journal outs) (Written a journal outs) a b
-first_touches journal outs lines a b puts = touches_wider (Only (a.name journal)) (Only (a.name journal)) (Written a journal outs) (Written a journal outs) a b (λ m e. inl e) (λ m e. inl e) (keeps_touches (a.name journal) a b puts.keeps)
+pub first_uses : (journal : ℕ) (outs lines : List ℕ) (a b : Seen) {r : Result (Unit {0}) Failed} → PutsAll journal lines a b r → Uses Nothing (Written a journal outs) (end_by (λ e. Write) r) a b
+first_uses journal outs lines a b {r} puts = uses_wider Nothing (Only (a.name journal)) Nothing (Written a journal outs) (λ m x. x) (λ m e. inl e) (end_by (λ e. Write) r) a b (puts_all_uses a b journal lines r puts)
 
 module _ (journal : ℕ) (outs lines : List ℕ) (pieces : List (List ℕ)) (a b : Seen) (f : AreFiles a journal outs) where
   abbrev F : List ℕ → Type 0
@@ -44,9 +46,10 @@ module _ (journal : ℕ) (outs lines : List ℕ) (pieces : List (List ℕ)) (a b
 
   pub first_failed : (e : Failed) → PutsAll {T = Unit {0}} {E = Failed} journal lines a b (Err e) → Writes journal outs lines pieces a b (Err e)
   first_failed e puts =
-      let k = first_touches journal outs lines a b puts in
+      let u = first_uses journal outs lines a b puts in
+      let k = writing_touches F a b u in
       record {
-        touches = k;
+        uses = u;
         files = files_stay F F a b k journal outs f;
         whole = λ told l l' r r' w is more. tt;
         front = λ told l l' r r' w is more.
@@ -68,13 +71,11 @@ module _ (journal : ℕ) (outs lines : List ℕ) (pieces : List (List ℕ)) (a b
               });
             };
         cause = inl (record { rose = puts.cause; records = outs_same puts });
-        reads = puts.reads;
-        counts = tt;
       }
 
   module _ (d : Seen) (puts : PutsAll {T = Unit {0}} {E = Failed} journal lines a b (Ok tt)) where
     abbrev k : Touches F F a b
-    k = first_touches journal outs lines a b puts
+    k = writing_touches F a b (first_uses journal outs lines a b puts)
 
     told_b : IsTrue a.told → IsTrue b.told
     told_b told = subst IsTrue (sym k.told) told
@@ -95,8 +96,13 @@ module _ (journal : ℕ) (outs lines : List ℕ) (pieces : List (List ℕ)) (a b
       second : Touches F F b d
       second = touches_wider (NameIn b outs) (NameIn b outs) F F b d in_f in_f each.touches
 
+      uses_both : Uses Nothing F (end_by (λ e. Write) z) a d
+      uses_both =
+          uses_then Nothing F (end_by (λ e. Write) z) a b d (first_uses journal outs lines a b puts)
+          (uses_wider Nothing (NameIn b outs) Nothing F (λ m x. x) in_f (end_by (λ e. Write) z) b d (puts_each_uses outs pieces b d z each))
+
       both : Touches F F a d
-      both = touches_trans F F a b d k second
+      both = writing_touches F a d uses_both
 
       name_d : (q : ℕ) → q < length outs → name_of d outs q ≡ name_of b outs q
       name_d q lt = same_name F F b d second outs outs_b q lt
@@ -135,7 +141,7 @@ module _ (journal : ℕ) (outs lines : List ℕ) (pieces : List (List ℕ)) (a b
 
     pub second_done : PutsEach outs pieces b d (Ok tt) → Writes journal outs lines pieces a d (Ok tt)
     second_done each = record {
-      touches = both each;
+      uses = uses_both each;
       files = files_stay F F a d (both each) journal outs f;
       whole = λ told l l' r r' w is more. record {
         lines_ = lines_d each told l l' r w is;
@@ -153,13 +159,11 @@ module _ (journal : ℕ) (outs lines : List ℕ) (pieces : List (List ℕ)) (a b
         });
       };
       cause = tt;
-      reads = λ m. each.reads m ∙ puts.reads m;
-      counts = λ m. each.counts m ∙ puts.counts m;
     }
 
     pub second_failed : (e : Failed) → PutsEach outs pieces b d (Err e) → Writes journal outs lines pieces a d (Err e)
     second_failed e each = record {
-      touches = both each;
+      uses = uses_both each;
       files = files_stay F F a d (both each) journal outs f;
       whole = λ told l l' r r' w is more. tt;
       front = λ told l l' r r' w is more.
@@ -179,6 +183,4 @@ module _ (journal : ℕ) (outs lines : List ℕ) (pieces : List (List ℕ)) (a b
             });
           };
       cause = inr (record { lines_ = λ told l had. journal_kept each ∙ puts.grown told l had; port = each.cause.0; fails = fails_d each.cause.0 each.cause.1 });
-      reads = λ m. each.reads m ∙ puts.reads m;
-      counts = tt;
     }

@@ -1,8 +1,8 @@
 -- A window that was gathered and handled: what stands after it, before and behind its writing.
 use Rattle.std.proofs.Common.{◌≡◌, ℕ, suc, ◌+◌, ◌^◌, ◌<◌, ◌≤◌, List, [], ◌∷◌, ◌++◌, length, map, Option, Some, IfSome, IsTrue, Result, Ok, Err, inl, inr, take, drop, refl, sym, ap, ◌∙◌, subst, arith}
 use Rattle.std.specs.Prelude.{unwrap_or}
-use Rattle.fab_base.specs.Ending.{NoFaults}
-use Rattle.fab_base.specs.Seen.{Seen, Touches, Nothing}
+use Rattle.fab_base.specs.Ending.{End, Uses}
+use Rattle.fab_base.specs.Seen.{Seen, Nothing}
 use Rattle.fab_base.specs.declared.values.Failed.{Failed}
 use Rattle.fab_config.specs.Settings.{Settings}
 use Rattle.fab_policy.specs.Growing.{lines_from, records_to, with_more}
@@ -40,6 +40,7 @@ use Rattle.fab_windows.proofs.SentLemmas.{NotAfter, outs_are, outs_early, early,
 use Rattle.fab_pages.proofs.PageLemmas.{front_of}
 use Rattle.fab_gather.specs.Walked.{Walked}
 use Rattle.fab_gather.proofs.SlotLemmas.{same_length}
+use Rattle.fab_gather.proofs.UsesLemmas.{uses_touches}
 use Rattle.fab_gather.proofs.WalkedLemmas.{walked_on}
 use Rattle.fab_windows.proofs.FileLemmas.{files_stay}
 use Rattle.fab_windows.proofs.TurnLemmas.{read_touches, reached_on, ended_writing, ended_gathering, ended_closing, ended_unwritten, but_on, files_now}
@@ -63,10 +64,6 @@ handles_by w shelves F G H E events outs t f after es sents ranged =
       outs_ = (λ i. map (sent_of (settings i) (es i)) outs) ∙ sents;
       ranged = subst AreRanged (sym es) ranged;
     }
-
--- a window that was gathered: no fault was counted
-pub read_well : {c : Settings} {first w : ℕ} {a b : Seen} {ins ins' : List Input} {shelves shelves' : List Shelf} {had left : Budget} → Gathers c first w (walk_at a ins shelves had) (walk_at b ins' shelves' left) (Ok tt) → NoFaults a b
-read_well t = (t.counts, t.writes)
 
 module _ (laws : Laws) (k : Task) (w first : ℕ) (F : Contents) (d : Seen) (ins : List Input) (shelves : List Shelf) (left : Budget) (r : Reached k w first F (walk_at d ins shelves left))
     (b : Seen) (ins' : List Input) (shelves' : List Shelf) (left' : Budget) (t : Gathers k.settings first w (walk_at d ins shelves left) (walk_at b ins' shelves' left') (Ok tt))
@@ -104,8 +101,8 @@ module _ (laws : Laws) (k : Task) (w first : ℕ) (F : Contents) (d : Seen) (ins
     ports = r.ports;
     outputs = r.outputs;
     limits = r.limits;
-    touches = read_touches laws k w first F d ins shelves left r b t.touches;
-    faults = none_then k.seen d b r.faults (read_well t);
+    touches = read_touches laws k w first F d ins shelves left r b t.uses;
+    faults = none_then k.seen d b r.faults t.uses.counts;
     taken = taken';
     walked = walked_after;
     entry_list = K;
@@ -146,19 +143,18 @@ module _ (laws : Laws) (k : Task) (w first : ℕ) (F : Contents) (d : Seen) (ins
 
   module _ (p : Pending) (files : IsTrue k.seen.told → WholesBut p c b k.journal k.outs r.entry_list) (z : Seen) (p' : Pending) where
     told_b : IsTrue k.seen.told → IsTrue b.told
-    told_b told = subst IsTrue (sym (t.touches.told ∙ r.touches.told)) told
+    told_b told = subst IsTrue (sym (t.uses.touches.told ∙ r.touches.told)) told
 
     pub ended_publishing : (e : RunFault) → Publishes (file_slots k.journal k.outs) (lines_from (unwrap_or F.state.tables.clock 0) events) (map (sent_of F.settings events) outs) (paged_at b p) (paged_at z p') (Err e) → Ended k z e
     ended_publishing e x =
-        ended_writing laws k (w + 1) first E b ins' shelves' left' reached_after z x.touches x.reads e x.only
+        ended_writing laws k (w + 1) first E b ins' shelves' left' reached_after z e x.uses x.only
         (λ told. let f = files told in record { before = Some f.before; begins = goes_on f.before f.begins; hold = x.front (told_b told) (text f.before) (text r.entry_list) (text K) (captures c (length k.outs) f.before) (captures c (length k.outs) r.entry_list) (captures c (length k.outs) K) f.hold lines_here records_here })
-        (λ y. x.cause (ap (λ v. Err v) y)) x.counts
 
     module _ (done done' : Done) (frames : done.frames ≡ frame_count r.entry_list) (entries : done.entries ≡ length r.entry_list) where
       pub going_on : Publishes (file_slots k.journal k.outs) (lines_from (unwrap_or F.state.tables.clock 0) events) (map (sent_of F.settings events) outs) (paged_at b p) (paged_at z p') (Ok tt) →
           done'.frames ≡ done.frames + frame_count events → done'.entries ≡ done.entries + length events → Going k (w + 1) first E (walk_at z ins' shelves' left') done' p'
       going_on x more_frames more_entries = record {
-        reached = reached_on laws k (w + 1) first E b ins' shelves' left' reached_after z x.touches x.reads x.counts;
+        reached = reached_on laws k (w + 1) first E b ins' shelves' left' reached_after z x.uses x.uses.counts;
         files = λ told.
             let f = files told in
             elim (x.whole (told_b told) (text f.before) (text r.entry_list) (text K) (captures c (length k.outs) f.before) (captures c (length k.outs) r.entry_list) (captures c (length k.outs) K) f.hold lines_here records_here) [
@@ -184,8 +180,8 @@ module _ (laws : Laws) (k : Task) (w first : ℕ) (F : Contents) (d : Seen) (ins
 
 -- the files are open behind the reading of a window
 pub files_then : (laws : Laws) (k : Task) (w first : ℕ) (F : Contents) (d : Seen) (ins : List Input) (shelves : List Shelf) (left : Budget) (done : Done) (p : Pending) → Going k w first F (walk_at d ins shelves left) done p →
-    (b : Seen) → Touches Nothing (NameIn d (slots_of ins)) d b → AreFiles b k.journal k.outs
-files_then laws k w first F d ins shelves left done p g b u = files_stay Nothing (NameIn d (slots_of ins)) d b u k.journal k.outs (files_now laws k w first F d ins shelves left g.reached)
+    (b : Seen) {end : End} → Uses (NameIn d (slots_of ins)) Nothing end d b → AreFiles b k.journal k.outs
+files_then laws k w first F d ins shelves left done p g b u = files_stay Nothing (NameIn d (slots_of ins)) d b (uses_touches (NameIn d (slots_of ins)) d b u) k.journal k.outs (files_now laws k w first F d ins shelves left g.reached)
 
 module _ (laws : Laws) (k : Task) (w first : ℕ) (F : Contents) (d : Seen) (ins : List Input) (shelves : List Shelf) (left : Budget) (done : Done) (p : Pending) (g : Going k w first F (walk_at d ins shelves left) done p) (b : Seen) (ins' : List Input) (shelves' : List Shelf) (left' : Budget) where
   module _ (e : GatherFault) (t : Gathers k.settings first w (walk_at d ins shelves left) (walk_at b ins' shelves' left') (Err e)) (z : Seen) where
@@ -193,7 +189,7 @@ module _ (laws : Laws) (k : Task) (w first : ℕ) (F : Contents) (d : Seen) (ins
     window_stops = ended_gathering laws k w first F d ins shelves left g.reached p g.files b ins' shelves' left' e t z
 
     window_breaks : (f : Failed) → Writes k.journal k.outs p.lines p.pieces b z (Err f) → Ended k z fault.Write
-    window_breaks = ended_closing laws k w first F d ins shelves left g.reached b t.touches p g.files z
+    window_breaks = ended_closing laws k w first F d ins shelves left g.reached b t.uses p g.files z
 
     pub window_ends : (told : RunFault) → FlushedFor k.journal k.outs p b z (fault_from e) told → Ended k z told
     window_ends told (inl x) = subst (Ended k z) (sym x.1) (window_stops x.0)
@@ -201,13 +197,13 @@ module _ (laws : Laws) (k : Task) (w first : ℕ) (F : Contents) (d : Seen) (ins
 
   module _ (t : Gathers k.settings first w (walk_at d ins shelves left) (walk_at b ins' shelves' left') (Ok tt)) where
     pub window_refused : Ended k b fault.Memory
-    window_refused = ended_unwritten laws k w first F d ins shelves left g.reached b t.touches p g.files (read_well t)
+    window_refused = ended_unwritten laws k w first F d ins shelves left g.reached b t.uses p g.files t.uses.counts
 
     but_b : IsTrue k.seen.told → WholesBut p k.settings b k.journal k.outs g.reached.entry_list
-    but_b told = but_on laws k w first F d ins shelves left g.reached b t.touches p g.files told
+    but_b told = but_on laws k w first F d ins shelves left g.reached b t.uses p g.files told
 
     pub files_b : AreFiles b k.journal k.outs
-    files_b = files_then laws k w first F d ins shelves left done p g b t.touches
+    files_b = files_then laws k w first F d ins shelves left done p g b t.uses
 
     module _ (next : IsNextWindow k.settings shelves (Some w)) (E : Contents) (events : List Event) (outs : List Out) (h : Handles w shelves' F E events outs) where
       pub window_early : w < 2 ^ 43 → AreEarly outs

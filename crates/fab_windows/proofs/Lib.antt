@@ -1,4 +1,5 @@
 pub mod ResultLemmas
+pub mod UsesLemmas
 pub mod FileLemmas
 pub mod EndLemmas
 pub mod StayLemmas

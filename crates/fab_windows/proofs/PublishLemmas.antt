@@ -5,9 +5,9 @@ use Rattle.std.specs.List.{list_any}
 use Rattle.std.specs.declared.alloc.Global.{Global}
 use Rattle.std.proofs.lemmas.Bool.{or_parts}
 use Rattle.std.proofs.lemmas.List.{append-nil}
-use Rattle.fab_base.specs.Seen.{Seen, Rose}
+use Rattle.fab_base.specs.Seen.{Seen, Nothing}
 use Rattle.fab_base.specs.declared.values.Failed.{Failed}
-use Rattle.fab_base.proofs.SeenLemmas.{touches_refl}
+use Rattle.fab_base.proofs.EndingLemmas.{uses_none, uses_refused}
 use Rattle.fab_config.specs.Settings.{Settings}
 use Rattle.fab_policy.specs.Growing.{records_to}
 use Rattle.fab_policy.specs.Journal.{Journal}
@@ -67,13 +67,6 @@ module _ (p : Pending) (c : Settings) (a b : Seen) (journal : ℕ) (outs : List 
   pub flushed_part : {x : Result (Unit {0}) Failed} → Writes journal outs p.lines p.pieces a b x → Fronts c b journal outs J
   flushed_part x = record { before = Some h.before; begins = h.begins; hold = flushed_front p a b journal outs (text h.before) (captures c (length outs) h.before) (text J) (captures c (length outs) J) told h.hold x }
 
--- why writing failed
-pub write_cause : (journal : ℕ) (outs lines : List ℕ) (pieces : List (List ℕ)) (a b : Seen) (f : Failed) → Writes journal outs lines pieces a b (Err f) → (m : List ℕ) × Written a journal outs m × Rose (a.write_faults m) (b.write_faults m)
-write_cause journal outs lines pieces a b f w = elim w.cause [
-  | inl first ↦ (a.name journal, inl refl, first.rose)
-  | inr later ↦ (name_of a outs later.port, inr (later.port, later.fails.within, refl), later.fails.rose)
-]
-
 -- ---- what a window adds
 
 -- what is there, what was still to be written, and what is added
@@ -84,17 +77,14 @@ module _ (journal : ℕ) (outs lines : List ℕ) (sents : List Sent) (p : Pendin
   -- refused memory: nothing more is written, which is a beginning
   pub publishes_nothing : (p' : Pending) → Publishes (file_slots journal outs) lines sents (paged_at a p) (paged_at a p') (Err fault.Memory)
   publishes_nothing p' = record {
-    touches = touches_refl (Written a journal outs) (Written a journal outs) a;
+    uses = uses_refused Nothing (Written a journal outs) a a (uses_none Nothing (Written a journal outs) a);
     whole = λ told w l l' v r r' h is more. tt;
     front = λ told w l l' v r r' h is more. record {
       lines_ = (w, h.hold.lines_, (p.lines ++ lines, sym (behind w p.lines lines l l' h.lines_ is)));
       records = λ q lt. (v q, h.hold.records q lt, (piece_at p.pieces q ++ records_to (q + 1) sents, sym (behind (v q) (piece_at p.pieces q) (records_to (q + 1) sents) (r q) (r' q) (h.records q lt) (more q lt))));
       order = still_in_order a journal outs w v l' r' h.hold;
     };
-    cause = λ x. absurd (cc);
     only = tt;
-    reads = λ n. refl;
-    counts = λ n. refl;
   }
 
   module _ (m : Pending) (lines_are : m.lines ≡ p.lines ++ lines) (are : (q : ℕ) → q < length outs → piece_at m.pieces q ≡ piece_at p.pieces q ++ records_to (q + 1) sents) where
@@ -108,36 +98,27 @@ module _ (journal : ℕ) (outs lines : List ℕ) (sents : List Sent) (p : Pendin
 
     pub publishes_later : Publishes (file_slots journal outs) lines sents (paged_at a p) (paged_at a m) (Ok tt)
     publishes_later = record {
-      touches = touches_refl (Written a journal outs) (Written a journal outs) a;
+      uses = uses_none Nothing (Written a journal outs) a;
       whole = λ told w l l' v r r' h is more. inl (added w l l' v r r' h is more);
       front = λ told w l l' v r r' h is more. but_is_front m a journal outs w v l' r' (added w l l' v r r' h is more);
-      cause = λ x. absurd (cc);
       only = tt;
-      reads = λ n. refl;
-      counts = λ n. refl;
     }
 
     module _ (b : Seen) where
       pub publishes_all : (p' : Pending) → IsNothing p' → Writes journal outs m.lines m.pieces a b (Ok tt) → Publishes (file_slots journal outs) lines sents (paged_at a p) (paged_at b p') (Ok tt)
       publishes_all p' none x = record {
-        touches = x.touches;
+        uses = x.uses;
         whole = λ told w l l' v r r' h is more. inr (hold_all p' b journal outs l' r' none (flushed m a b journal outs w v l' r' told (added w l l' v r r' h is more) x));
         front = λ told w l l' v r r' h is more. flushed_front m a b journal outs w v l' r' told (added w l l' v r r' h is more) x;
-        cause = λ is. absurd (cc);
         only = tt;
-        reads = x.reads;
-        counts = x.counts;
       }
 
       pub publishes_front : (p' : Pending) (f : Failed) → Writes journal outs m.lines m.pieces a b (Err f) → Publishes (file_slots journal outs) lines sents (paged_at a p) (paged_at b p') (Err fault.Write)
       publishes_front p' f x = record {
-        touches = x.touches;
+        uses = x.uses;
         whole = λ told w l l' v r r' h is more. tt;
         front = λ told w l l' v r r' h is more. flushed_front m a b journal outs w v l' r' told (added w l l' v r r' h is more) x;
-        cause = λ is. write_cause journal outs m.lines m.pieces a b f x;
         only = tt;
-        reads = x.reads;
-        counts = tt;
       }
 
 -- ---- pages that are short

@@ -1,5 +1,6 @@
 -- What writing leaves of the readers, and reading of the files.
 use Rattle.std.proofs.Common.{◌≡◌, ℕ, List, length, Option, Some, refl, ap, ◌∙◌, inl, inr}
+use Rattle.fab_base.specs.Ending.{End, Uses}
 use Rattle.fab_base.specs.Seen.{Seen, Touches, Nothing}
 use Rattle.fab_config.specs.Settings.{Settings}
 use Rattle.fab_policy.specs.Journal.{Journal}
@@ -10,6 +11,7 @@ use Rattle.fab_gather.specs.Ports.{slots_of, AreInputs}
 use Rattle.fab_gather.proofs.StayLemmas.{LeftStays, left_stays}
 use Rattle.fab_windows.specs.Files.{AreFiles, Written, Pending, Hold, WholesBut, captures}
 use Rattle.run_files.proofs.OutputLemmas.{same_name, stays_named}
+use Rattle.fab_windows.proofs.UsesLemmas.{writing_touches}
 
 -- names of files stay
 module _ (may counted : List ℕ → Type 0) (a b : Seen) (k : Touches may counted a b) (journal : ℕ) (outs : List ℕ) (f : AreFiles a journal outs) where
@@ -42,7 +44,7 @@ module _ (counted : List ℕ → Type 0) (a b : Seen) (k : Touches Nothing count
 
 -- ---- writing leaves what is to come
 
-pub writing_leaves : (journal : ℕ) (outs : List ℕ) (a b : Seen) (ins : List Input) → Touches (Written a journal outs) (Written a journal outs) a b → AreInputs a (slots_of ins) →
+pub writing_leaves : (journal : ℕ) (outs : List ℕ) (a b : Seen) (ins : List Input) {end : End} → Uses Nothing (Written a journal outs) end a b → AreInputs a (slots_of ins) →
     ((m : List ℕ) → NameIn a (slots_of ins) m → ¬ Written a journal outs m) → LeftStays a b ins
-writing_leaves journal outs a b ins k o apart =
-    left_stays a b ins (λ q lt. k.left (slot_at (slots_of ins) q) (o.inputs q lt) (apart (name_of a (slots_of ins) q) (q, lt, refl)))
+writing_leaves journal outs a b ins u o apart =
+    left_stays a b ins (λ q lt. (writing_touches (Written a journal outs) a b u).left (slot_at (slots_of ins) q) (o.inputs q lt) (apart (name_of a (slots_of ins) q) (q, lt, refl)))

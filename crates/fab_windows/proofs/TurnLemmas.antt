@@ -1,7 +1,7 @@
 -- One window after another: how a turn ends, and what stands after it.
 use Rattle.std.proofs.Common.{◌≡◌, ◌≢◌, ℕ, ◌<◌, ◌≤◌, ◌⊎◌, inl, inr, List, length, Some, IsTrue, Result, Ok, Err, refl, sym, ap, ◌∙◌, subst, arith}
-use Rattle.fab_base.specs.Ending.{End, Said, Read, Write, Memory, NoFaults, SparesReads, SparesWrites, IsSaid}
-use Rattle.fab_base.specs.Seen.{Seen, Touches, Nothing, Rose, SameReadFaults, SameWriteFaults}
+use Rattle.fab_base.specs.Ending.{End, Said, Read, Write, Memory, NoFaults, IsSaid, RoseIn, Uses}
+use Rattle.fab_base.specs.Seen.{Seen, Touches, Nothing, Rose}
 use Rattle.fab_base.specs.declared.values.Failed.{Failed}
 use Rattle.fab_base.proofs.SeenLemmas.{rose_later, touches_trans, touches_wider}
 use Rattle.fab_policy.specs.Journal.{Journal}
@@ -19,7 +19,7 @@ use Rattle.fab_gather.specs.Port.{ending}
 use Rattle.pcap_file.specs.Faults as gathering
 use Rattle.pcap_file.specs.Faults.{gather_end}
 use Rattle.run_files.specs.Faults.{fault_from, run_end}
-use Rattle.fab_base.proofs.EndingLemmas.{none_then, spares_writes_then}
+use Rattle.fab_base.proofs.EndingLemmas.{none_then}
 use Rattle.fab_base.specs.Slots.{name_of, NameIn}
 use Rattle.fab_gather.specs.Ports.{slots_of, AreInputs, stop_from, walk_at}
 use Rattle.fab_windows.specs.declared.Done.{Done}
@@ -28,19 +28,21 @@ use Rattle.fab_windows.specs.Run.{Interrupted, Stopped, Ends, SparesFaults}
 use Rattle.fab_windows.specs.Turns.{Laws, Task, captures_in, start_of, Touched, Reached, Ended, IsUnwritten}
 use Rattle.fab_gather.specs.Gather.{Gathers}
 use Rattle.fab_gather.proofs.SlotLemmas.{inputs_stay, length-slots, name_in}
+use Rattle.fab_gather.proofs.UsesLemmas.{uses_rose, uses_touches}
 use Rattle.fab_gather.proofs.StayLemmas.{LeftStays}
 use Rattle.fab_gather.proofs.WalkedLemmas.{walked_ahead, walked_splits, walked_stays}
 use Rattle.fab_windows.proofs.EndLemmas.{interrupted, stopped}
 use Rattle.fab_windows.proofs.FileLemmas.{files_stay}
-use Rattle.fab_windows.proofs.PublishLemmas.{wholes_but_front, flushed_whole, flushed_part, write_cause}
+use Rattle.fab_windows.proofs.PublishLemmas.{wholes_but_front, flushed_whole, flushed_part}
 use Rattle.fab_windows.proofs.StayLemmas.{written_in, but_stays, writing_leaves}
+use Rattle.fab_windows.proofs.UsesLemmas.{writing_touches}
 
 -- ---- how a run ends, fault by fault
 
 abbrev Causes : Task → Seen → RunFault → Type 0
 Causes k d e =
     (e ≡ fault.Read → (q : ℕ) × (q < length k.ins) × Rose (k.seen.read_faults (name_of k.seen (slots_of k.ins) q)) (d.read_faults (name_of k.seen (slots_of k.ins) q)))
-    × (e ≡ fault.Write → (m : List ℕ) × Written k.seen k.journal k.outs m × Rose (k.seen.write_faults m) (d.write_faults m))
+    × (e ≡ fault.Write → RoseIn (Written k.seen k.journal k.outs) k.seen.write_faults d.write_faults)
     × SparesFaults (run_end e) k.seen d
 
 error_is : (r : Result Done RunFault) (x y : RunFault) → r ≡ Err x → r ≡ Err y → x ≡ y
@@ -73,12 +75,12 @@ ended k d e touches stop read front causes = record {
 rose_longer : (a b c : ℕ) → Rose a b → b ≤ c → Rose a c
 rose_longer a b c rose le = omega (arith, rose, le)
 
--- a call that counts no fault of reading
-spares_faults : (end : End) (a b : Seen) → SameReadFaults a b → SparesWrites end a b → SparesFaults end a b
-spares_faults Said a b reads writes = (reads, writes)
-spares_faults Read a b reads writes = (tt, writes)
-spares_faults Write a b reads writes = tt
-spares_faults Memory a b reads writes = (reads, writes)
+-- a call that only writes, behind calls that count none
+writing_spares : (writes : List ℕ → Type 0) (end : End) (a b c : Seen) → NoFaults a b → Uses Nothing writes end b c → SparesFaults end a c
+writing_spares writes Said a b c before u = none_then a b c before u.counts
+writing_spares writes Read a b c before u = absurd u.counts.0.1
+writing_spares writes Write a b c before u = tt
+writing_spares writes Memory a b c before u = none_then a b c before u.counts
 
 -- ---- what a fault of gathering ends a run with
 
@@ -101,11 +103,11 @@ no_write_from gather.Read is = cc
 no_write_from gather.Memory is = cc
 
 -- what was gathered between calls that count none
-pub gathering_spares : (e : GatherFault) (a b c d : Seen) → NoFaults a b → SparesReads (gather_end e) b c → SameWriteFaults b c → NoFaults c d → SparesFaults (run_end (fault_from e)) a d
-gathering_spares (gather.Capture port at why) a b c d before reads writes after = none_then a b d before (none_then b c d (reads, writes) after)
-gathering_spares (gather.Limit kind) a b c d before reads writes after = none_then a b d before (none_then b c d (reads, writes) after)
-gathering_spares gather.Read a b c d before reads writes after = (tt, λ m. after.1 m ∙ writes m ∙ before.1 m)
-gathering_spares gather.Memory a b c d before reads writes after = none_then a b d before (none_then b c d (reads, writes) after)
+pub gathering_spares : (reads : List ℕ → Type 0) (e : GatherFault) (a b c d : Seen) → NoFaults a b → Uses reads Nothing (gather_end e) b c → NoFaults c d → SparesFaults (run_end (fault_from e)) a d
+gathering_spares reads (gather.Capture port at why) a b c d before u after = none_then a b d before (none_then b c d u.counts after)
+gathering_spares reads (gather.Limit kind) a b c d before u after = none_then a b d before (none_then b c d u.counts after)
+gathering_spares reads gather.Read a b c d before u after = (tt, λ m. after.1 m ∙ u.counts.1 m ∙ before.1 m)
+gathering_spares reads gather.Memory a b c d before u after = none_then a b d before (none_then b c d u.counts after)
 
 -- ---- from where a run has come
 
@@ -147,26 +149,27 @@ module _ (laws : Laws) (k : Task) (w first : ℕ) (F : Contents) (d : Seen) (ins
 
   -- ---- reading touches nothing else
 
-  module _ (b : Seen) (t : Touches Nothing (NameIn d (slots_of ins)) d b) where
+  module _ (b : Seen) {end : End} (t : Uses (NameIn d (slots_of ins)) Nothing end d b) where
+    touch : Touches Nothing (NameIn d (slots_of ins)) d b
+    touch = uses_touches (NameIn d (slots_of ins)) d b t
+
     pub read_touches : Touches Ours (Touched k) k.seen b
-    read_touches = touches_trans Ours (Touched k) k.seen d b r.touches (touches_wider Nothing (NameIn d (slots_of ins)) Ours (Touched k) d b (λ m x. absurd x) (λ m h. inr (name_now m h)) t)
+    read_touches = touches_trans Ours (Touched k) k.seen d b r.touches (touches_wider Nothing (NameIn d (slots_of ins)) Ours (Touched k) d b (λ m x. absurd x) (λ m h. inr (name_now m h)) touch)
 
     written_then : (m : List ℕ) → Written b k.journal k.outs m → Ours m
-    written_then m h = written_now m (written_in Nothing (NameIn d (slots_of ins)) d b t k.journal k.outs files_now m h)
+    written_then m h = written_now m (written_in Nothing (NameIn d (slots_of ins)) d b touch k.journal k.outs files_now m h)
 
     told_then : IsTrue k.seen.told → IsTrue b.told
-    told_then told = subst IsTrue (sym t.told) (told_on told)
+    told_then told = subst IsTrue (sym t.touches.told) (told_on told)
 
-    rose_on : (q : ℕ) → q < length ins → Rose (d.read_faults (name_of d (slots_of ins) q)) (b.read_faults (name_of d (slots_of ins) q)) →
-        (p : ℕ) × (p < length k.ins) × Rose (k.seen.read_faults (name_of k.seen (slots_of k.ins) p)) (b.read_faults (name_of k.seen (slots_of k.ins) p))
-    rose_on q lt rose =
-        let within : q < length (slots_of ins) = omega (arith, lt, length-slots ins) in
-        let at = name_now (name_of d (slots_of ins) q) (q, within, refl) in
-        (at.0, omega (arith, at.1, length-slots k.ins), rose_later _ _ _ (r.touches.reads_rise _) (subst (λ n. Rose (d.read_faults n) (b.read_faults n)) at.2 rose))
+    rose_on : RoseIn (NameIn d (slots_of ins)) d.read_faults b.read_faults → (p : ℕ) × (p < length k.ins) × Rose (k.seen.read_faults (name_of k.seen (slots_of k.ins) p)) (b.read_faults (name_of k.seen (slots_of k.ins) p))
+    rose_on rose =
+        let at = name_now rose.0 rose.1 in
+        (at.0, omega (arith, at.1, length-slots k.ins), rose_later _ _ _ (r.touches.reads_rise _) (subst (λ n. Rose (d.read_faults n) (b.read_faults n)) at.2 rose.2))
 
     module _ (p : Pending) (files : IsTrue k.seen.told → WholesBut p k.settings d k.journal k.outs r.entry_list) where
       pub but_on : IsTrue k.seen.told → WholesBut p k.settings b k.journal k.outs r.entry_list
-      but_on told = but_stays (NameIn d (slots_of ins)) d b t k.journal k.outs files_now p k.settings r.entry_list (files told)
+      but_on told = but_stays (NameIn d (slots_of ins)) d b touch k.journal k.outs files_now p k.settings r.entry_list (files told)
 
       front_on : IsTrue k.seen.told → Interrupted k.settings k.budget (captures_in k) (Fronts k.settings b k.journal k.outs)
       front_on told = interrupted_here told (Fronts k.settings b k.journal k.outs) (wholes_but_front p k.settings b k.journal k.outs r.entry_list (but_on told))
@@ -178,8 +181,8 @@ module _ (laws : Laws) (k : Task) (w first : ℕ) (F : Contents) (d : Seen) (ins
 
       -- then all is written that was still to be
       module _ (z : Seen) where
-        then_touches : Touches (Written b k.journal k.outs) (Written b k.journal k.outs) b z → Touches Ours (Touched k) k.seen z
-        then_touches u = touches_trans Ours (Touched k) k.seen b z read_touches (touches_wider (Written b k.journal k.outs) (Written b k.journal k.outs) Ours (Touched k) b z written_then (λ m h. inl (written_then m h)) u)
+        then_touches : {last : End} → Uses Nothing (Written b k.journal k.outs) last b z → Touches Ours (Touched k) k.seen z
+        then_touches u = touches_trans Ours (Touched k) k.seen b z read_touches (touches_wider (Written b k.journal k.outs) (Written b k.journal k.outs) Ours (Touched k) b z written_then (λ m h. inl (written_then m h)) (writing_touches (Written b k.journal k.outs) b z u))
 
         wholes_then : Writes k.journal k.outs p.lines p.pieces b z (Ok tt) → IsTrue k.seen.told → Wholes k.settings z k.journal k.outs r.entry_list
         wholes_then x told = flushed_whole p k.settings b z k.journal k.outs r.entry_list (told_then told) (but_on told) x
@@ -190,62 +193,61 @@ module _ (laws : Laws) (k : Task) (w first : ℕ) (F : Contents) (d : Seen) (ins
         -- which fails
         pub ended_closing : (f : Failed) → Writes k.journal k.outs p.lines p.pieces b z (Err f) → Ended k z fault.Write
         ended_closing f x =
-            ended k z fault.Write (then_touches x.touches) (λ told y. absurd y) (λ told y. absurd (cc)) (λ told y. fronts_then x told)
-            (λ y. absurd (cc), λ y. let rose = write_cause k.journal k.outs p.lines p.pieces b z f x in (rose.0, written_then rose.0 rose.1, rose_later _ _ _ (read_touches.writes_rise rose.0) rose.2), tt)
+            ended k z fault.Write (then_touches x.uses) (λ told y. absurd y) (λ told y. absurd (cc)) (λ told y. fronts_then x told)
+            (λ y. absurd (cc), λ y. let rose = x.uses.counts.0 in (rose.0, written_then rose.0 rose.1, rose_later _ _ _ (read_touches.writes_rise rose.0) rose.2), tt)
 
   -- a fault while the window is gathered, behind which all is written that was still to be
   pub ended_gathering : (p : Pending) → (IsTrue k.seen.told → WholesBut p k.settings d k.journal k.outs r.entry_list) → (b : Seen) (ins' : List Input) (shelves' : List Shelf) (left' : Budget) (e : GatherFault) →
       Gathers k.settings first w (walk_at d ins shelves left) (walk_at b ins' shelves' left') (Err e) → (z : Seen) → Writes k.journal k.outs p.lines p.pieces b z (Ok tt) → Ended k z (fault_from e)
   ended_gathering p files b ins' shelves' left' e t z x =
-      ended k z (fault_from e) (then_touches b t.touches p files z x.touches)
+      ended k z (fault_from e) (then_touches b t.uses p files z x.uses)
       (λ told stops.
       let s = t.stops (told_on told) (stopped_from e stops) in
-      subst (λ f. Stopped k.settings k.budget (captures_in k) z k.journal k.outs (fault_from f)) s.2 (stopped_here told z s.0 s.1 s.3 (wholes_then b t.touches p files z x told)))
-      (λ told y. interrupted_here told (Wholes k.settings z k.journal k.outs) (wholes_then b t.touches p files z x told))
-      (λ told y. fronts_then b t.touches p files z x told) (
-        λ y. let cause = t.cause (ap (λ v. Err v) (read_from e y)) in let rose = rose_on b t.touches cause.0 cause.1 cause.2 in (rose.0, rose.1, rose_longer _ _ _ rose.2 (x.touches.reads_rise _)),
+      subst (λ f. Stopped k.settings k.budget (captures_in k) z k.journal k.outs (fault_from f)) s.2 (stopped_here told z s.0 s.1 s.3 (wholes_then b t.uses p files z x told)))
+      (λ told y. interrupted_here told (Wholes k.settings z k.journal k.outs) (wholes_then b t.uses p files z x told))
+      (λ told y. fronts_then b t.uses p files z x told) (
+        λ y. let rose = rose_on b t.uses (uses_rose (NameIn d (slots_of ins)) d b t.uses (ap gather_end (read_from e y))) in (rose.0, rose.1, rose_longer _ _ _ rose.2 (x.uses.touches.reads_rise _)),
         λ y. absurd (no_write_from e y),
-        gathering_spares e k.seen d b z r.faults t.counts t.writes (x.reads, x.counts),
+        gathering_spares (NameIn d (slots_of ins)) e k.seen d b z r.faults t.uses x.uses.counts,
       )
 
   -- ---- writing keeps what is to come
 
-  module _ (z : Seen) (t : Touches (Written d k.journal k.outs) (Written d k.journal k.outs) d z) (reads : SameReadFaults d z) where
+  module _ (z : Seen) {end : End} (t : Uses Nothing (Written d k.journal k.outs) end d z) where
     pub lefts : LeftStays d z ins
     lefts = writing_leaves k.journal k.outs d z ins t inputs_now apart_now
 
     pub write_touches : Touches Ours (Touched k) k.seen z
-    write_touches = touches_trans Ours (Touched k) k.seen d z r.touches (touches_wider (Written d k.journal k.outs) (Written d k.journal k.outs) Ours (Touched k) d z written_now (λ m h. inl (written_now m h)) t)
+    write_touches = touches_trans Ours (Touched k) k.seen d z r.touches (touches_wider (Written d k.journal k.outs) (Written d k.journal k.outs) Ours (Touched k) d z written_now (λ m h. inl (written_now m h)) (writing_touches (Written d k.journal k.outs) d z t))
 
-    abbrev pub reached_on : SameWriteFaults d z → Reached k w first F (walk_at z ins shelves left)
-    reached_on writes = record {
+    abbrev pub reached_on : NoFaults d z → Reached k w first F (walk_at z ins shelves left)
+    reached_on none = record {
       given = r.given;
       ports = r.ports;
       outputs = r.outputs;
       limits = r.limits;
       touches = write_touches;
-      faults = none_then k.seen d z r.faults (reads, writes);
+      faults = none_then k.seen d z r.faults none;
       taken = r.taken;
-      walked = walked_stays k.settings (start_of k) w first r.taken (walk_at d ins shelves left) r.walked z t.told lefts;
+      walked = walked_stays k.settings (start_of k) w first r.taken (walk_at d ins shelves left) r.walked z t.touches.told lefts;
       entry_list = r.entry_list;
       sofar = r.sofar;
       clock = r.clock;
     }
 
-    -- a window that can't be written: beginnings of its journal
-    pub ended_writing : (e : RunFault) → IsUnwritten e → (IsTrue k.seen.told → Fronts k.settings z k.journal k.outs r.entry_list) →
-        (e ≡ fault.Write → (m : List ℕ) × Written d k.journal k.outs m × Rose (d.write_faults m) (z.write_faults m)) → SparesWrites (run_end e) d z → Ended k z e
-    ended_writing e only front cause counts =
-        ended k z e write_touches (λ told x. absurd (not_both e only x)) (λ told x. absurd (subst IsUnwritten x only))
-        (λ told x. interrupted_here told (Fronts k.settings z k.journal k.outs) (front told)) (
-          λ x. absurd (subst IsUnwritten x only),
-          λ x. let rose = cause x in (rose.0, written_now rose.0 rose.1, rose_later _ _ _ (r.touches.writes_rise rose.0) rose.2),
-          spares_faults (run_end e) k.seen z (λ m. reads m ∙ r.faults.0 m) (spares_writes_then (run_end e) k.seen d z r.faults.1 counts),
-        )
-      where
-        not_both : (f : RunFault) → IsUnwritten f → IsSaid (run_end f) → ⊥
-        not_both (fault.Capture port at why) u s = u
-        not_both (fault.Limit kind) u s = u
-        not_both fault.Read u s = u
-        not_both fault.Write u s = s
-        not_both fault.Memory u s = s
+  -- a window that can't be written: beginnings of its journal
+  pub ended_writing : (z : Seen) (e : RunFault) → Uses Nothing (Written d k.journal k.outs) (run_end e) d z → IsUnwritten e → (IsTrue k.seen.told → Fronts k.settings z k.journal k.outs r.entry_list) → Ended k z e
+  ended_writing z e u only front =
+      ended k z e (write_touches z u) (λ told x. absurd (not_both e only x)) (λ told x. absurd (subst IsUnwritten x only))
+      (λ told x. interrupted_here told (Fronts k.settings z k.journal k.outs) (front told)) (
+        λ x. absurd (subst IsUnwritten x only),
+        λ x. let rose = (subst (λ f. Uses Nothing (Written d k.journal k.outs) (run_end f) d z) x u).counts.0 in (rose.0, written_now rose.0 rose.1, rose_later _ _ _ (r.touches.writes_rise rose.0) rose.2),
+        writing_spares (Written d k.journal k.outs) (run_end e) k.seen d z r.faults u,
+      )
+    where
+      not_both : (f : RunFault) → IsUnwritten f → IsSaid (run_end f) → ⊥
+      not_both (fault.Capture port at why) u s = u
+      not_both (fault.Limit kind) u s = u
+      not_both fault.Read u s = u
+      not_both fault.Write u s = s
+      not_both fault.Memory u s = s

@@ -1,7 +1,7 @@
 -- What a run over captures leaves in its files, however it ends.
 use Rattle.std.specs.Prelude.{◌≡◌, ℕ, ◌<◌, ◌⊎◌, IsTrue, List, [], length, map, Some, None, Result, Ok, Err, IsErrOf}
 use Rattle.std.specs.List.{All}
-use Rattle.fab_base.specs.Ending.{End, Write, end_by, SparesReads, SparesWrites}
+use Rattle.fab_base.specs.Ending.{End, Write, end_by, SparesReads, SparesWrites, RoseIn}
 use Rattle.fab_base.specs.Seen.{Seen, Rose, Touches}
 use Rattle.fab_config.specs.Settings.{Settings}
 use Rattle.pcap_file.specs.declared.Budget.{Budget}
@@ -91,5 +91,5 @@ pub record Runs (c : Settings) (old : Start) (new : Seen) (files : FileSlots) (r
   pub ends : IsTrue old.seen.told → Ends c old.left (opened_in old.seen old.ins) new files.journal files.outs result
   pub read : IsErrOf result fault.Read →
       (q : ℕ) × (q < length old.ins) × Rose (old.seen.read_faults (name_of old.seen (slots_of old.ins) q)) (new.read_faults (name_of old.seen (slots_of old.ins) q))
-  pub write : IsErrOf result fault.Write → (m : List ℕ) × Written old.seen files.journal files.outs m × Rose (old.seen.write_faults m) (new.write_faults m)
+  pub write : IsErrOf result fault.Write → RoseIn (Written old.seen files.journal files.outs) old.seen.write_faults new.write_faults
   pub counts : SparesFaults (end_by run_end result) old.seen new

@@ -1,7 +1,7 @@
 -- What stands between the windows of a run, and what its parts do. Of the public clauses only that of the laws cites it.
-use Rattle.std.specs.Prelude.{◌≡◌, ℕ, ◌+◌, ◌<◌, ◌≤◌, ◌^◌, ◌⊎◌, IsTrue, IfSome, List, [], ◌++◌, length, map, Option, Some, unwrap_or, Result, Ok, Err, OnOk, IfErr, IsErrOf}
-use Rattle.fab_base.specs.Ending.{NoFaults, end_by, SparesWrites}
-use Rattle.fab_base.specs.Seen.{Seen, Touches, Rose, SameReadFaults}
+use Rattle.std.specs.Prelude.{◌≡◌, ℕ, ◌+◌, ◌<◌, ◌≤◌, ◌^◌, ◌⊎◌, IsTrue, IfSome, List, [], ◌++◌, length, map, Option, Some, unwrap_or, Result, Ok, Err, OnOk, IfErr}
+use Rattle.fab_base.specs.Ending.{NoFaults, end_by, Uses}
+use Rattle.fab_base.specs.Seen.{Seen, Touches, Nothing}
 use Rattle.fab_base.specs.declared.values.Failed.{Failed}
 use Rattle.fab_config.specs.Settings.{Settings}
 use Rattle.pcap_file.specs.declared.Budget.{Budget}
@@ -165,7 +165,7 @@ paged_at seen pages = record { seen = seen; pages = pages }
 -- Adding lines and what is sent, from what was still to be written to what is then: files that held these bytes but for that hold
 -- them with what is added, but for what is still to be written or wholly; or beginnings of it, written in order.
 pub record Publishes (files : FileSlots) (lines : List ℕ) (sents : List Sent) (old new : Paged) (result : Result (Unit {0}) RunFault) : Type 0 where
-  pub touches : Touches (Written old.seen files.journal files.outs) (Written old.seen files.journal files.outs) old.seen new.seen
+  pub uses : Uses Nothing (Written old.seen files.journal files.outs) (end_by run_end result) old.seen new.seen
   pub whole : IsTrue old.seen.told →
       (w l l' : List ℕ) (v r r' : ℕ → List ℕ) → HoldBut old.pages old.seen files.journal files.outs (file_bytes w v) (file_bytes l r) → l' ≡ l ++ lines
       → ((q : ℕ) → q < length files.outs → r' q ≡ r q ++ records_to (q + 1) sents)
@@ -175,10 +175,7 @@ pub record Publishes (files : FileSlots) (lines : List ℕ) (sents : List Sent) 
   pub front : IsTrue old.seen.told →
       (w l l' : List ℕ) (v r r' : ℕ → List ℕ) → HoldBut old.pages old.seen files.journal files.outs (file_bytes w v) (file_bytes l r) → l' ≡ l ++ lines
       → ((q : ℕ) → q < length files.outs → r' q ≡ r q ++ records_to (q + 1) sents) → HoldFronts new.seen files.journal files.outs (file_bytes w v) (file_bytes l' r')
-  pub cause : IsErrOf result fault.Write → (m : List ℕ) × Written old.seen files.journal files.outs m × Rose (old.seen.write_faults m) (new.seen.write_faults m)
   pub only : IfErr result IsUnwritten
-  pub reads : SameReadFaults old.seen new.seen
-  pub counts : SparesWrites (end_by run_end result) old.seen new.seen
 
 -- What stands once the next window was gathered from where a run had come.
 pub record Gathered (k : Task) (w first : ℕ) (F : Contents) (new : Walk) (done : Done) (p : Pending) : Type 0 where

@@ -50,7 +50,7 @@ returns-in-Err g c =
           (ends_looks k _ F p c.requires.inputs c.requires.ports.1 c.in-Err.fault t c.first_place-place.ensures.behind
           (along_none k F p refl c.requires.state c.requires.nothing.0 c.requires.nothing.1 c.first_place-place.ensures.behind));
       takes = t.takes;
-      counts = (counts_gathering (seen c.args.depot.now) (seen c.first_looks.new.depot) c.in-Err.fault c.fault_of.result c.fault_of.ensures t.counts, t.writes);
+      counts = counts_gathering _ (seen c.args.depot.now) (seen c.first_looks.new.depot) c.in-Err.fault c.fault_of.result c.fault_of.ensures t.uses;
     }
 
 pub returns : goal.returns
@@ -64,5 +64,5 @@ returns g c =
           c.next_window.result c.config.result.now c.deref.result.now c.unwrap_or-first.result c.next_window.ensures.least c.config.ensures c.deref.ensures.value c.unwrap_or-first.ensures
           refl c.requires.count c.requires.state c.requires.nothing.0 c.requires.nothing.1 c.first_place-place.ensures.behind c.first_place-place.ensures.inside;
       takes = t.takes;
-      counts = (t.counts, t.writes);
+      counts = t.uses.counts;
     }

@@ -49,7 +49,7 @@ returns-in-Err g c =
       count = l.invariant.count;
       takes = takes_then c.args.ins.now l.ins n.ins c.args.budget.now l.budget n.budget l.invariant.takes t.takes;
       counts = counts_then {T = Unit {0}} (seen c.args.depot.now) (seen l.depot) (seen n.depot) (Err c.fault_of.result) l.invariant.counts
-          (counts_gathering (seen l.depot) (seen n.depot) c.in-Err.fault c.fault_of.result c.fault_of.ensures t.counts, t.writes);
+          (counts_gathering _ (seen l.depot) (seen n.depot) c.in-Err.fault c.fault_of.result c.fault_of.ensures t.uses);
     }
 
 -- ---- checking its lines
@@ -99,7 +99,7 @@ returns-in_err-check_gathered g c =
       count = e.advances.count ∙ l.invariant.count;
       takes = takes_then c.args.ins.now l.ins c.gather.new.ins c.args.budget.now l.budget c.gather.new.budget l.invariant.takes t.takes;
       counts = counts_then (seen c.args.depot.now) (seen l.depot) (seen n.depot) r l.invariant.counts
-          (counts_then (seen l.depot) (seen c.gather.new.depot) (seen n.depot) r (t.counts, t.writes) (counts_on (seen c.gather.new.depot) (seen n.depot) f r c.from_residual.ensures.1 e.counts));
+          (counts_then (seen l.depot) (seen c.gather.new.depot) (seen n.depot) r t.uses.counts (counts_on (seen c.gather.new.depot) (seen n.depot) f r c.from_residual.ensures.1 e.counts));
     }
 
 pub windows-preserved : goal.windows-preserved
@@ -120,8 +120,8 @@ windows-preserved g c =
       count = e.advances.count ∙ l.invariant.count;
       takes = takes_then c.args.ins.now l.ins c.gather.new.ins c.args.budget.now l.budget c.gather.new.budget l.invariant.takes gathered.takes;
       counts = (
-        λ m. e.counts.0 m ∙ gathered.counts m ∙ l.invariant.counts.0 m,
-        λ m. e.counts.1 m ∙ gathered.writes m ∙ l.invariant.counts.1 m,
+        λ m. e.counts.0 m ∙ gathered.uses.counts.0 m ∙ l.invariant.counts.0 m,
+        λ m. e.counts.1 m ∙ gathered.uses.counts.1 m ∙ l.invariant.counts.1 m,
       );
     }
 

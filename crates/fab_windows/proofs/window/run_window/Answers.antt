@@ -62,7 +62,7 @@ flush_for-requires-clause-files g c =
     let seen = g.D.Depot.seen in
     let t = gathers_as k c.args.window c.args.run.now.first c.args.fabric (seen c.args.depot.now) c.args.ins.now c.args.run.now.shelves.items c.args.budget.now (seen c.gather.new.depot) c.gather.new.ins c.gather.new.shelves c.gather.new.budget
     c.config.result.now c.config.ensures c.deref_mut.result.now c.deref_mut.ensures.value (Err c.in-Err.fault) c.in-Err.ensures.gathers in
-    files_then c.laws_of_runs.ensures k c.args.window c.args.run.now.first c.args.fabric (seen c.args.depot.now) c.args.ins.now c.args.run.now.shelves.items c.args.budget.now c.args.run.now.done (pending c.args.run.now.pages) c.requires.going.1 (seen c.gather.new.depot) t.touches
+    files_then c.laws_of_runs.ensures k c.args.window c.args.run.now.first c.args.fabric (seen c.args.depot.now) c.args.ins.now c.args.run.now.shelves.items c.args.budget.now c.args.run.now.done (pending c.args.run.now.pages) c.requires.going.1 (seen c.gather.new.depot) t.uses
 
 pub returns-in-Err-clause-runs : goal.returns-in-Err-clause-runs
 returns-in-Err-clause-runs g c = λ s going.
