@@ -7,7 +7,7 @@ use Rattle.fabric_tool.specs.Meaning.{Meaning}
 
 -- a depot that nothing was asked of
 pub untouched : (d : Seen) → IsUntouched d d
-untouched d = ((λ m. refl), (λ s. record { input = refl; output = refl; name = refl }), ((λ m. refl), λ m. refl))
+untouched d = ((λ m. refl), record { slots = λ s. record { input = refl; output = refl; name = refl }; left = λ s is. refl }, ((λ m. refl), λ m. refl))
 
 -- what an ending says of outputs that were written
 abbrev pub Left : Ending → Type 0

@@ -1,16 +1,16 @@
 -- What calls leave and count that read files and write none.
-use Rattle.std.proofs.Common.{ℕ, List, IsTrue, sym, subst, inl, inr}
-use Rattle.fab_base.specs.Ending.{End, Either, RoseIn, Uses}
+use Rattle.std.proofs.Common.{ℕ, List, IsTrue, sym, subst}
+use Rattle.fab_base.specs.Ending.{End, RoseIn, Uses}
 use Rattle.fab_base.specs.Seen.{Seen, Touches, Nothing, SameFiles}
 use Rattle.fab_base.proofs.EndingLemmas.{none_yet, counts_then}
-use Rattle.fab_base.proofs.SeenLemmas.{touches_wider}
+use Rattle.fab_gather.proofs.UsesLemmas.{uses_touches}
 use Rattle.run_files.specs.Names.{Among, AnyRose}
 use Rattle.run_files.proofs.NameLemmas.{rose_among}
 use Rattle.fabric_tool.specs.Ending.{CountsOf}
 
 module _ {reads : List ℕ → Type 0} {end : End} {a b : Seen} (u : Uses reads Nothing end a b) where
   pub used_touches : Touches Nothing reads a b
-  used_touches = touches_wider Nothing (Either reads Nothing) Nothing reads a b (λ m x. x) (λ m x. elim x [ inl is ↦ is | inr none ↦ absurd none ]) u.touches
+  used_touches = uses_touches reads a b u
 
   -- no file has changed
   pub used_files : SameFiles a b
