@@ -2,17 +2,17 @@
 use Rattle.std.proofs.Common.{◌≡◌, ℕ, zero, suc, ◌+◌, ◌<◌, inl, inr, List, [], ◌++◌, length, take, drop, Some, None, IsTrue, Ok, Err, refl, sym, ap, ◌∙◌, subst, arith}
 use Rattle.std.specs.Prelude.{Result, replicate}
 use Rattle.std.proofs.lemmas.List.{append-nil, take-append-drop}
-use Rattle.fab_base.specs.Seen.{Seen, Touches}
+use Rattle.fab_base.specs.Ending.{Write, end_by, Uses}
+use Rattle.fab_base.specs.Seen.{Seen, Touches, Nothing}
 use Rattle.fab_base.specs.declared.values.Failed.{Failed}
-use Rattle.fab_base.proofs.EndingLemmas.{none_yet, none_then}
-use Rattle.fab_base.proofs.SeenLemmas.{touches_refl, touches_trans, touches_wider}
+use Rattle.fab_base.proofs.EndingLemmas.{uses_none, uses_refused, uses_then, uses_wider}
 use Rattle.fab_config.specs.Settings.{Settings}
 use Rattle.pcap_file.specs.Capture.{head_bytes}
 use Rattle.fab_policy.specs.Text.{text, head_line}
 use Rattle.fab_base.specs.Slots.{name_of, NameIn}
 use Rattle.run_files.specs.Outputs.{PutsEach}
 use Rattle.run_files.specs.Pages.{piece_at}
-use Rattle.run_files.proofs.OutputLemmas.{stays_named, same_name}
+use Rattle.run_files.proofs.OutputLemmas.{stays_named, same_name, puts_each_uses}
 use Rattle.fab_windows.specs.Files.{Written, Hold, Pending, Writes, captures}
 use Rattle.fab_windows.specs.Turns.{Laws}
 use Rattle.fab_windows.proofs.UsesLemmas.{writing_touches}
@@ -21,7 +21,7 @@ use Rattle.fab_live.specs.declared.fault.LiveFault.TheVariants as fault
 use Rattle.fab_live.specs.Files.{LiveSlots, LiveNames, AreLive, Came, CameSome}
 use Rattle.fab_live.specs.Live.{LeftBroken, HoldLive, StartsFiles}
 use Rattle.fab_live.proofs.BeginLemmas.{live_nothing}
-use Rattle.fab_live.proofs.WriteLemmas.{moved, live_stays, written_before, writes_rose}
+use Rattle.fab_live.proofs.WriteLemmas.{moved, live_stays, written_before}
 
 module _ (laws : Laws) (c : Settings) (f : LiveSlots) (a : Seen) (g : AreLive a f) (hold : IsTrue a.told → Hold a f.journal f.outs [] (λ q. [])) (came : IsTrue a.told → Came a f.ins (λ q. [])) where
   abbrev F : List ℕ → Type 0
@@ -52,8 +52,11 @@ module _ (laws : Laws) (c : Settings) (f : LiveSlots) (a : Seen) (g : AreLive a 
 
   module _ (pieces : List (List ℕ)) (heads : (q : ℕ) → q < length f.ins → piece_at pieces q ≡ head_bytes) (b : Seen) where
     module _ {r : Result (Unit {0}) Failed} (each : PutsEach f.ins pieces a b r) where
+      pub heads_use : Uses Nothing F (end_by (λ e. Write) r) a b
+      heads_use = uses_wider Nothing (NameIn a f.ins) Nothing F (λ m x. x) (λ m x. inl x) (end_by (λ e. Write) r) a b (puts_each_uses f.ins pieces a b r each)
+
       first : Touches F F a b
-      first = touches_wider (NameIn a f.ins) (NameIn a f.ins) F F a b (λ m x. inl x) (λ m x. inl x) each.touches
+      first = writing_touches F a b heads_use
 
       pub live_b : AreLive b f
       live_b = live_stays f F F a b g first
@@ -100,9 +103,6 @@ module _ (laws : Laws) (c : Settings) (f : LiveSlots) (a : Seen) (g : AreLive a 
           };
     }
 
-    pub heads_touch : {r : Result (Unit {0}) Failed} → PutsEach f.ins pieces a b r → Touches F F a b
-    heads_touch each = first each
-
     module _ (each : PutsEach f.ins pieces a b (Ok tt)) (p : Pending) (p_lines : p.lines ≡ head_line) (p_pieces : (q : ℕ) → q < n → piece_at p.pieces q ≡ head_bytes) (d : Seen) where
       came_b : IsTrue a.told → Came b f.ins (λ q. head_bytes ++ [])
       came_b told q lt = moved b (sym (in_b each q lt)) (each.all told q lt [] (came told q lt) ∙ ap Some (heads q lt ∙ sym (append-nil head_bytes)))
@@ -114,11 +114,17 @@ module _ (laws : Laws) (c : Settings) (f : LiveSlots) (a : Seen) (g : AreLive a 
       captures_are q lt = laws.nothing_written.1 c n (q + 1) ∙ sym (p_pieces q lt)
 
       module _ {z : Result (Unit {0}) Failed} (w : Writes f.journal f.outs p.lines p.pieces b d z) where
-        second : Touches F F b d
-        second = touches_wider (Written b f.journal f.outs) (Written b f.journal f.outs) F F b d (λ m x. inr (written_before f F F a b g (first each) m x)) (λ m x. inr (written_before f F F a b g (first each) m x)) (writing_touches (Written b f.journal f.outs) b d w.uses)
+        second_uses : Uses Nothing F (end_by (λ e. Write) z) b d
+        second_uses = uses_wider Nothing (Written b f.journal f.outs) Nothing F (λ m x. x) (λ m x. inr (written_before f F F a b g (first each) m x)) (end_by (λ e. Write) z) b d w.uses
 
-        pub all_touch : Touches F F a d
-        all_touch = touches_trans F F a b d (first each) second
+        second : Touches F F b d
+        second = writing_touches F b d second_uses
+
+        pub all_use : Uses Nothing F (end_by (λ e. Write) z) a d
+        all_use = uses_then Nothing F (end_by (λ e. Write) z) a b d (heads_use each) second_uses
+
+        all_touch : Touches F F a d
+        all_touch = writing_touches F a d all_use
 
         pub live_d : AreLive d f
         live_d = live_stays f F F a d g all_touch
@@ -175,11 +181,10 @@ module _ (laws : Laws) (f : LiveSlots) (a : Seen) (g : AreLive a f) (empty : IsT
   -- memory was refused
   pub starts_none : {T : Type 0} → StartsFiles {T = T} f a a (Err fault.Memory)
   starts_none = record {
-    touches = touches_refl (LiveNames a f) (LiveNames a f) a;
+    uses = uses_refused Nothing (LiveNames a f) a a (uses_none Nothing (LiveNames a f) a);
     files = g;
     whole = λ c. tt;
     broken = λ c. (tt, nothing_yet laws c f a g hold_ came_);
-    counts = none_yet a;
   }
 
   module _ (pieces : List (List ℕ)) (is : pieces ≡ replicate (length f.ins) head_bytes) (b : Seen) where
@@ -191,50 +196,42 @@ module _ (laws : Laws) (f : LiveSlots) (a : Seen) (g : AreLive a f) (empty : IsT
 
     pub starts_failed : (e : Failed) (c : Settings) → PutsEach f.ins pieces a b (Err e) → StartsFiles {T = Unit {0}} f a b (Err fault.Write)
     starts_failed e c each = record {
-      touches = heads_touch laws c f a g hold_ came_ pieces heads_ b each;
+      uses = heads_use laws c f a g hold_ came_ pieces heads_ b each;
       files = live_between each c;
       whole = λ c. tt;
       broken = λ c. (tt, heads_failed laws c f a g hold_ came_ pieces heads_ b e each);
-      counts = ((name_of a f.ins each.cause.0, inl (each.cause.0, each.cause.1.within, refl), each.cause.1.rose), each.reads);
     }
 
     module _ (c : Settings) (each : PutsEach f.ins pieces a b (Ok tt)) (p : Pending) (p_lines : p.lines ≡ head_line) (p_pieces : (q : ℕ) → q < length f.outs → piece_at p.pieces q ≡ head_bytes) (d : Seen) where
       pub starts_broken : (e : Failed) → Writes f.journal f.outs p.lines p.pieces b d (Err e) → StartsFiles {T = Unit {0}} f a d (Err fault.Write)
       starts_broken e w = record {
-        touches = all_touch laws c f a g hold_ came_ pieces heads_ b each p p_lines p_pieces d w;
+        uses = all_use laws c f a g hold_ came_ pieces heads_ b each p p_lines p_pieces d w;
         files = live_d laws c f a g hold_ came_ pieces heads_ b each p p_lines p_pieces d w;
         whole = λ c. tt;
         broken = λ c. (tt, files_failed laws c f a g hold_ came_ pieces heads_ b each p p_lines p_pieces d e w);
-        counts = (
-          writes_rose f (LiveNames a f) (LiveNames a f) a b g (heads_touch laws c f a g hold_ came_ pieces heads_ b each) p.lines p.pieces d e each.counts w,
-          λ m. w.uses.counts.1 m ∙ each.reads m,
-        );
       }
 
       pub starts_whole : Writes f.journal f.outs p.lines p.pieces b d (Ok tt) → StartsFiles {T = Unit {0}} f a d (Ok tt)
       starts_whole w = record {
-        touches = all_touch laws c f a g hold_ came_ pieces heads_ b each p p_lines p_pieces d w;
+        uses = all_use laws c f a g hold_ came_ pieces heads_ b each p p_lines p_pieces d w;
         files = live_d laws c f a g hold_ came_ pieces heads_ b each p p_lines p_pieces d w;
         whole = λ c. files_written laws c f a g hold_ came_ pieces heads_ b each p p_lines p_pieces d w;
         broken = λ c. tt;
-        counts = none_then a b d (each.reads, each.counts) w.uses.counts;
       }
 
 -- the same of another kind of answer
 pub starts_ok : {T U : Type 0} (f : LiveSlots) (a b : Seen) (t : T) (u : U) → StartsFiles {T = T} f a b (Ok t) → StartsFiles {T = U} f a b (Ok u)
 starts_ok f a b t u s = record {
-  touches = s.touches;
+  uses = s.uses;
   files = s.files;
   whole = s.whole;
   broken = λ c. tt;
-  counts = s.counts;
 }
 
 pub starts_err : {T U : Type 0} (f : LiveSlots) (a b : Seen) (e : LiveFault) → StartsFiles {T = T} f a b (Err e) → StartsFiles {T = U} f a b (Err e)
 starts_err {T} {U} f a b e s = record {
-  touches = s.touches;
+  uses = s.uses;
   files = s.files;
   whole = λ c. tt;
   broken = s.broken;
-  counts = s.counts;
 }

@@ -1,10 +1,10 @@
 -- What stands behind each packet of a stream, and at its end.
-use Rattle.std.proofs.Common.{◌≡◌, ℕ, zero, suc, ◌+◌, ◌-◌, ◌<◌, ◌≤◌, ◌^◌, ◌⊎◌, inl, inr, List, [], ◌∷◌, ◌++◌, length, length-append, Option, Some, None, Ok, Err, IsTrue, refl, sym, ◌∙◌, subst, arith}
+use Rattle.std.proofs.Common.{◌≡◌, ℕ, zero, suc, ◌+◌, ◌-◌, ◌<◌, ◌≤◌, ◌^◌, inl, inr, List, [], ◌∷◌, ◌++◌, length, length-append, Option, Some, None, Ok, Err, IsTrue, refl, sym, ◌∙◌, subst, arith}
 use Rattle.std.specs.Prelude.{Result}
-use Rattle.fab_base.specs.Ending.{end_by, NoFaults, IsSaid}
-use Rattle.fab_base.specs.Seen.{Seen, Rose, Only, Nothing, Reads, Touches, SameReadFaults, SameWriteFaults}
-use Rattle.fab_base.proofs.EndingLemmas.{none_yet, none_then, counts_then}
-use Rattle.fab_base.proofs.SeenLemmas.{keeps_touches, reads_touches, touches_refl, touches_trans, touches_wider}
+use Rattle.fab_base.specs.Ending.{End, Said, end_by, CountsRead, Either, Uses, IsSaid}
+use Rattle.fab_base.specs.Seen.{Seen, Only, Nothing, Touches}
+use Rattle.fab_base.proofs.EndingLemmas.{uses_none, uses_read, uses_then, uses_wider}
+use Rattle.fab_base.proofs.SeenLemmas.{keeps_touches}
 use Rattle.fab_config.specs.Settings.{Settings}
 use Rattle.pcap_file.specs.declared.Budget.{Budget}
 use Rattle.pcapng_file.specs.declared.NgRecord.{NgRecord}
@@ -17,12 +17,13 @@ use Rattle.pcapng_file.specs.Stream.{Streaming, streaming, StreamStand, StreamRe
 use Rattle.fab_policy.specs.Journal.{Journal}
 use Rattle.run_files.proofs.OutputLemmas.{stays_named, same_name}
 use Rattle.fab_windows.specs.declared.Done.{Done}
+use Rattle.fab_windows.proofs.UsesLemmas.{writing_touches}
 use Rattle.pcap_file.specs.declared.fault.LimitKind.TheVariants as limits
 use Rattle.fab_live.specs.declared.live.Live.{Live}
 use Rattle.fab_live.specs.declared.fault.LiveFault.{LiveFault}
 use Rattle.fab_live.specs.declared.fault.LiveFault.TheVariants as fault
-use Rattle.fab_live.specs.Files.{LiveSlots, LiveNames, live_end, CountsWrites}
-use Rattle.fab_live.specs.Live.{AreGiven, AreOpen, StartsFiles, Running, HoldLive, LeftWhole, LeftBroken, LeavesPacket, LiveEnds, LiveFinished, CountsFaults, LiveRuns, Begins, BeginsWithin, Stops, fault_of, IsUnwritten}
+use Rattle.fab_live.specs.Files.{LiveSlots, LiveNames, live_end}
+use Rattle.fab_live.specs.Live.{AreGiven, AreOpen, StartsFiles, Running, HoldLive, LeftWhole, LeftBroken, LeavesPacket, LiveEnds, LiveFinished, LiveRuns, Begins, BeginsWithin, Stops, fault_of, IsUnwritten}
 use Rattle.fab_live.proofs.RunningLemmas.{left_whole, entries_there}
 use Rattle.fab_live.proofs.WriteLemmas.{moved, in_before, written_before, live_stays}
 
@@ -34,8 +35,7 @@ pub record Looping (c : Settings) (f : LiveSlots) (stream : ℕ) (budget : Budge
   pub entry_list : Journal
   pub running : Running c f packets entry_list l d
   pub streamed : Streamed stream start budget (stream_stand p d) packets
-  pub touches : Touches (LiveNames start f) (λ m. LiveNames start f m ⊎ (m ≡ start.name stream)) start d
-  pub faults : NoFaults start d
+  pub uses : Uses (Only (start.name stream)) (LiveNames start f) Said start d
 
 -- what was read, by another name of its answer
 pub read_as : (stream : ℕ) (a b : StreamStand) (o o' : Option NgRecord) → o ≡ o' → StreamReads stream a b (Ok o) → StreamReads stream a b (Ok o')
@@ -47,37 +47,37 @@ read_less stream p p' d d' x r = let e = r.frames in omega (arith, e)
 
 -- slots of what is handed in, once files were written and the stream was read
 module _ (f : LiveSlots) (stream : ℕ) (start : Seen) (given : AreOpen start stream f) where
-  abbrev Counted : List ℕ → Type 0
-  Counted m = LiveNames start f m ⊎ (m ≡ start.name stream)
+  abbrev Stream : List ℕ → Type 0
+  Stream = Only (start.name stream)
 
-  module _ (d : Seen) (k : Touches (LiveNames start f) Counted start d) where
+  abbrev Ours : List ℕ → Type 0
+  Ours = LiveNames start f
+
+  module _ (d : Seen) {end : End} (u : Uses Stream Ours end start d) where
     pub named : d.name stream ≡ start.name stream
-    named = (k.slots stream (inl given.input)).name
+    named = (u.touches.slots stream (inl given.input)).name
 
     pub input_there : IsTrue (d.input stream)
-    input_there = subst IsTrue (sym (k.slots stream (inl given.input)).input) given.input
+    input_there = subst IsTrue (sym (u.touches.slots stream (inl given.input)).input) given.input
 
     pub names_back : (m : List ℕ) → LiveNames d f m → LiveNames start f m
-    names_back m (inl n) = inl (in_before f (LiveNames start f) Counted start d given.files k m n)
-    names_back m (inr w) = inr (written_before f (LiveNames start f) Counted start d given.files k m w)
+    names_back m (inl n) = inl (in_before f Ours (Either Stream Ours) start d given.files u.touches m n)
+    names_back m (inr w) = inr (written_before f Ours (Either Stream Ours) start d given.files u.touches m w)
 
     pub apart_there : ¬ LiveNames d f (d.name stream)
-    apart_there n = given.apart (subst (LiveNames start f) named (names_back (d.name stream) n))
+    apart_there n = given.apart (subst Ours named (names_back (d.name stream) n))
 
+  module _ (d : Seen) (u : Uses Stream Ours Said start d) (d' : Seen) where
     -- reading on
-    pub touches_read : (d' : Seen) → Reads (d.name stream) d d' → Touches (LiveNames start f) Counted start d'
-    touches_read d' r =
-        touches_trans (LiveNames start f) Counted start d d' k
-        (touches_wider Nothing (Only (d.name stream)) (LiveNames start f) Counted d d' (λ m x. absurd x) (λ m e. inr (e ∙ named)) (reads_touches (d.name stream) d d' r))
+    pub reads_on : {end : End} → Uses (Only (d.name stream)) Nothing end d d' → Uses Stream Ours end start d'
+    reads_on {end} more = uses_then Stream Ours end start d d' u (uses_wider (Only (d.name stream)) Nothing Stream Ours (λ m e. e ∙ named d u) (λ m none. absurd none) end d d' more)
 
     -- writing on
-    pub touches_written : (d' : Seen) → Touches (LiveNames d f) (LiveNames d f) d d' → Touches (LiveNames start f) Counted start d'
-    touches_written d' t =
-        touches_trans (LiveNames start f) Counted start d d' k
-        (touches_wider (LiveNames d f) (LiveNames d f) (LiveNames start f) Counted d d' (λ m x. names_back m x) (λ m x. inl (names_back m x)) t)
+    pub writes_on : {end : End} → Uses Nothing (LiveNames d f) end d d' → Uses Stream Ours end start d'
+    writes_on {end} more = uses_then Stream Ours end start d d' u (uses_wider Nothing (LiveNames d f) Stream Ours (λ m none. absurd none) (names_back d u) end d d' more)
 
 pub looping_input : (c : Settings) (f : LiveSlots) (stream : ℕ) (budget : Budget) (start : Seen) (l : Live) (p : Streaming) (d : Seen) → Looping c f stream budget start l p d → IsTrue (d.input stream)
-looping_input c f stream budget start l p d g = input_there f stream start g.given d g.touches
+looping_input c f stream budget start l p d g = input_there f stream start g.given d g.uses
 
 module _ (c : Settings) (f : LiveSlots) (stream : ℕ) (budget : Budget) (start : Seen) (l : Live) (p : Streaming) (d : Seen) (g : Looping c f stream budget start l p d) (p' : Streaming) (d' : Seen) where
   module _ (result : Result (Option NgRecord) NgError) (r : StreamReads stream (stream_stand p d) (stream_stand p' d') result) where
@@ -88,7 +88,7 @@ module _ (c : Settings) (f : LiveSlots) (stream : ℕ) (budget : Budget) (start 
     k = keeps_touches (d.name stream) d d' r.reads.keeps
 
     told_d : IsTrue start.told → IsTrue d.told
-    told_d told = subst IsTrue (sym g.touches.told) told
+    told_d told = subst IsTrue (sym g.uses.touches.told) told
 
     hold' : IsTrue d'.told → HoldLive c d' f g.packets g.entry_list
     hold' told =
@@ -124,15 +124,8 @@ module _ (c : Settings) (f : LiveSlots) (stream : ℕ) (budget : Budget) (start 
       hold = hold';
     }
 
-    pub touches' : Touches (LiveNames start f) (λ m. LiveNames start f m ⊎ (m ≡ start.name stream)) start d'
-    touches' = touches_read f stream start g.given d g.touches d' r.reads
-
-    -- no fault was counted, or none but of reading
-    pub quiet' : SameReadFaults d d' → NoFaults start d'
-    quiet' same = none_then start d d' g.faults (same, r.reads.writes)
-
-    writes' : SameWriteFaults start d'
-    writes' m = r.reads.writes m ∙ g.faults.1 m
+    pub uses' : (end : End) → CountsRead (d.name stream) end d d' → Uses (Only (start.name stream)) (LiveNames start f) end start d'
+    uses' end counts = reads_on f stream start g.given d g.uses d' (uses_read (d.name stream) end d d' r.reads counts)
 
     abbrev left : LeftWhole c d' f g.packets
     left = left_whole c f g.packets g.entry_list l d' running_read
@@ -163,9 +156,8 @@ module _ (c : Settings) (f : LiveSlots) (stream : ℕ) (budget : Budget) (start 
 
     pub ended : LiveRuns c budget stream f start d' (Ok l.done)
     ended = record {
-      touches = touches' (Ok None) r;
+      uses = uses' (Ok None) r Said (r.counts, r.reads.writes);
       ends = finished;
-      counts = quiet' (Ok None) r r.counts;
     }
 
   -- ---- it can't be read on
@@ -187,32 +179,30 @@ module _ (c : Settings) (f : LiveSlots) (stream : ℕ) (budget : Budget) (start 
         }
 
     -- which fault it is
-    ends_by : (x : LiveFault) → (IsTrue start.told → LiveEnds c budget f (start.left stream) d' (Err x)) → CountsFaults stream f (live_end x) start d' → LiveRuns c budget stream f start d' (Err x)
-    ends_by x ends counts = record { touches = touches' (Err e) r; ends = ends; counts = counts }
+    ends_by : (x : LiveFault) → (IsTrue start.told → LiveEnds c budget f (start.left stream) d' (Err x)) → CountsRead (d.name stream) (live_end x) d d' → LiveRuns c budget stream f start d' (Err x)
+    ends_by x ends counts = record { uses = uses' (Err e) r (live_end x) counts; ends = ends }
 
   pub failed : (e : NgError) → StreamReads stream (stream_stand p d) (stream_stand p' d') (Err e) → LiveRuns c budget stream f start d' (Err (fault_of e))
   failed (errors.Fault at why) r =
       let e = errors.Fault at why in
-      ends_by e r (fault.Block at why) (λ told. (g.packets, stopped e r tt told, left (Err e) r)) (quiet' (Err e) r r.counts)
+      ends_by e r (fault.Block at why) (λ told. (g.packets, stopped e r tt told, left (Err e) r)) (r.counts, r.reads.writes)
   failed (errors.Limit ng_limits.Bytes) r =
       let e = errors.Limit ng_limits.Bytes in
-      ends_by e r (fault.Limit limits.Bytes) (λ told. (g.packets, stopped e r tt told, left (Err e) r)) (quiet' (Err e) r r.counts)
+      ends_by e r (fault.Limit limits.Bytes) (λ told. (g.packets, stopped e r tt told, left (Err e) r)) (r.counts, r.reads.writes)
   failed (errors.Limit ng_limits.Frames) r =
       let e = errors.Limit ng_limits.Frames in
-      ends_by e r (fault.Limit limits.Frames) (λ told. (g.packets, stopped e r tt told, left (Err e) r)) (quiet' (Err e) r r.counts)
+      ends_by e r (fault.Limit limits.Frames) (λ told. (g.packets, stopped e r tt told, left (Err e) r)) (r.counts, r.reads.writes)
   failed (errors.Read bad) r =
       let e = errors.Read bad in
-      let rose = r.cause g.streamed.fresh bad refl in
-      let same = named f stream start g.given d g.touches in
-      ends_by e r fault.Read (λ told. (g.packets, begins_here (Err e) r told, left (Err e) r)) (
-        subst (λ (m : List ℕ). Rose (start.read_faults m) (d'.read_faults m)) same (subst (λ (n : ℕ). Rose n (d'.read_faults (d.name stream))) (g.faults.0 (d.name stream)) rose),
-        writes' (Err e) r,
-      )
-  failed errors.Memory r = ends_by errors.Memory r fault.Memory (λ told. (g.packets, begins_here (Err errors.Memory) r told, inl (left (Err errors.Memory) r))) (quiet' (Err errors.Memory) r r.counts)
+      ends_by e r fault.Read (λ told. (g.packets, begins_here (Err e) r told, left (Err e) r)) (r.cause g.streamed.fresh bad refl, r.reads.writes)
+  failed errors.Memory r = ends_by errors.Memory r fault.Memory (λ told. (g.packets, begins_here (Err errors.Memory) r told, inl (left (Err errors.Memory) r))) (r.counts, r.reads.writes)
 
   -- ---- a packet
 
   module _ (x : NgRecord) (r : StreamReads stream (stream_stand p d) (stream_stand p' d') (Ok (Some x))) where
+    there : Uses (Only (start.name stream)) (LiveNames start f) Said start d'
+    there = uses' (Ok (Some x)) r Said (r.counts, r.reads.writes)
+
     pub kept_here : IsPacketKept x
     kept_here = r.kept.0
 
@@ -241,9 +231,8 @@ module _ (c : Settings) (f : LiveSlots) (stream : ℕ) (budget : Budget) (start 
 
     pub no_port : length f.outs ≤ x.face → LiveRuns c budget stream f start d' (Err (fault.Port x.face))
     no_port le = record {
-      touches = touches' (Ok (Some x)) r;
+      uses = there;
       ends = λ told. (g.packets, begins_here (Ok (Some x)) r told, x, begins_within told, refl, le, left (Ok (Some x)) r);
-      counts = quiet' (Ok (Some x)) r r.counts;
     }
 
     refused_ends : x.face < length f.outs → (d'' : Seen) (e : LiveFault) → LeavesPacket c f g.packets x d'' e → IsTrue start.told → LiveEnds c budget f (start.left stream) d'' (Err e)
@@ -256,30 +245,23 @@ module _ (c : Settings) (f : LiveSlots) (stream : ℕ) (budget : Budget) (start 
     refused_ends lt d'' (fault.Port face) left told = absurd left
     refused_ends face d'' fault.Read left told = absurd left
 
-    pub refused : x.face < length f.outs → (d'' : Seen) (e : LiveFault) → Touches (LiveNames d' f) (LiveNames d' f) d' d'' → CountsWrites f (live_end e) d' d'' → LeavesPacket c f g.packets x d'' e → LiveRuns c budget stream f start d'' (Err e)
-    refused face d'' e touches counts left = record {
-      touches = touches_written f stream start g.given d' (touches' (Ok (Some x)) r) d'' touches;
+    pub refused : x.face < length f.outs → (d'' : Seen) (e : LiveFault) → Uses Nothing (LiveNames d' f) (live_end e) d' d'' → LeavesPacket c f g.packets x d'' e → LiveRuns c budget stream f start d'' (Err e)
+    refused face d'' e u left = record {
+      uses = writes_on f stream start g.given d' there d'' u;
       ends = refused_ends face d'' e left;
-      counts = counts_then (live_end e) start d' d'' (λ none. absurd none) (λ rose. (
-        rose.0,
-        names_back f stream start g.given d' (touches' (Ok (Some x)) r) rose.0 rose.1,
-        subst (λ (n : ℕ). Rose n (d''.write_faults rose.0)) (writes' (Ok (Some x)) r rose.0) rose.2,
-      )) (quiet' (Ok (Some x)) r r.counts) counts;
     }
 
-    pub looping_on : (d'' : Seen) (l' : Live) (K : Journal) → Touches (LiveNames d' f) (LiveNames d' f) d' d'' → NoFaults d' d'' → Running c f (g.packets ++ x ∷ []) K l' d''
+    pub looping_on : (d'' : Seen) (l' : Live) (K : Journal) → Uses Nothing (LiveNames d' f) Said d' d'' → Running c f (g.packets ++ x ∷ []) K l' d''
         → Looping c f stream budget start l' p' d''
-    looping_on d'' l' K touches quiet R =
-        let there = touches' (Ok (Some x)) r in
-        let same = touches.left stream (input_there f stream start g.given d' there) (apart_there f stream start g.given d' there) in
+    looping_on d'' l' K u R =
+        let same = (writing_touches (LiveNames d' f) d' d'' u).left stream (input_there f stream start g.given d' there) (apart_there f stream start g.given d' there) in
         record {
           given = g.given;
           packets = g.packets ++ x ∷ [];
           entry_list = K;
           running = R;
           streamed = streamed_stays stream start d' d'' budget p' (g.packets ++ x ∷ []) streamed' (λ told. same);
-          touches = touches_written f stream start g.given d' there d'' touches;
-          faults = none_then start d' d'' (quiet' (Ok (Some x)) r r.counts) quiet;
+          uses = writes_on f stream start g.given d' there d'' u;
         }
 
 -- ---- before the first packet
@@ -292,26 +274,28 @@ module _ (c : Settings) (f : LiveSlots) (stream : ℕ) (budget : Budget) (start 
     entry_list = [];
     running = R;
     streamed = streamed_none stream start budget p is;
-    touches = touches_refl (LiveNames start f) (λ m. LiveNames start f m ⊎ (m ≡ start.name stream)) start;
-    faults = none_yet start;
+    uses = uses_none (Only (start.name stream)) (LiveNames start f) start;
   }
 
 module _ (c : Settings) (f : LiveSlots) (stream : ℕ) (budget : Budget) (start : Seen) (given : AreGiven start stream f) (d : Seen) where
-  abbrev Counts : List ℕ → Type 0
-  Counts m = LiveNames start f m ⊎ (m ≡ start.name stream)
+  abbrev Stream' : List ℕ → Type 0
+  Stream' = Only (start.name stream)
+
+  abbrev Ours' : List ℕ → Type 0
+  Ours' = LiveNames start f
 
   given_open : AreOpen start stream f
   given_open = record { input = given.input; apart = given.apart; files = given.files }
 
-  module _ (touches : Touches (LiveNames start f) (LiveNames start f) start d) where
-    pub wider : Touches (LiveNames start f) Counts start d
-    wider = touches_wider (LiveNames start f) (LiveNames start f) (LiveNames start f) Counts start d (λ m x. x) (λ m x. inl x) touches
+  module _ {end : End} (u : Uses Nothing Ours' end start d) where
+    pub wider : Uses Stream' Ours' end start d
+    wider = uses_wider Nothing Ours' Stream' Ours' (λ m none. absurd none) (λ m x. x) end start d u
 
     pub open_on : AreOpen d stream f
     open_on = record {
       input = input_there f stream start given_open d wider;
       apart = apart_there f stream start given_open d wider;
-      files = live_stays f (LiveNames start f) (LiveNames start f) start d given.files touches;
+      files = live_stays f Ours' Ours' start d given.files (writing_touches Ours' start d u);
     }
 
   begun_ends : (e : LiveFault) → IsUnwritten e → LeftBroken c d f [] → IsTrue start.told → LiveEnds c budget f (start.left stream) d (Err e)
@@ -327,32 +311,24 @@ module _ (c : Settings) (f : LiveSlots) (stream : ℕ) (budget : Budget) (start 
   begun_broken {T} e s =
       let broken = s.broken c in
       record {
-        touches = wider s.touches;
+        uses = wider s.uses;
         ends = begun_ends e broken.0 broken.1;
-        counts = counts_then (live_end e) start start d (λ none. absurd none) (λ rose. rose) (none_yet start) s.counts;
       }
 
   -- the heads were written, and then it ran
   module _ {T : Type 0} (t : T) (s : StartsFiles {T = T} f start d (Ok t)) (new : Seen) (result : Result Done LiveFault) (runs : LiveRuns c budget stream f d new result) where
     back : (m : List ℕ) → LiveNames d f m → LiveNames start f m
-    back = names_back f stream start given_open d (wider s.touches)
+    back = names_back f stream start given_open d (wider s.uses)
 
     same_name_on : d.name stream ≡ start.name stream
-    same_name_on = named f stream start given_open d (wider s.touches)
-
-    counted_back : (m : List ℕ) → LiveNames d f m ⊎ (m ≡ d.name stream) → Counts m
-    counted_back m (inl n) = inl (back m n)
-    counted_back m (inr e) = inr (e ∙ same_name_on)
+    same_name_on = named f stream start given_open d (wider s.uses)
 
     pub runs_behind : LiveRuns c budget stream f start new result
     runs_behind = record {
-      touches =
-          touches_trans (LiveNames start f) Counts start d new (wider s.touches)
-          (touches_wider (LiveNames d f) (λ m. LiveNames d f m ⊎ (m ≡ d.name stream)) (LiveNames start f) Counts d new back counted_back runs.touches);
+      uses =
+          uses_then Stream' Ours' (end_by live_end result) start d new (wider s.uses)
+          (uses_wider (Only (d.name stream)) (LiveNames d f) Stream' Ours' (λ m e. e ∙ same_name_on) back (end_by live_end result) d new runs.uses);
       ends = λ told.
-          subst (λ (l : List ℕ). LiveEnds c budget f l new result) (s.touches.left stream given.input given.apart)
-          (runs.ends (subst IsTrue (sym s.touches.told) told));
-      counts = counts_then (end_by live_end result) start d new
-          (λ rose. subst (λ (m : List ℕ). Rose (start.read_faults m) (new.read_faults m)) same_name_on (subst (λ (n : ℕ). Rose n (new.read_faults (d.name stream))) (s.counts.0 (d.name stream)) rose))
-          (λ rose. (rose.0, back rose.0 rose.1, subst (λ (n : ℕ). Rose n (new.write_faults rose.0)) (s.counts.1 rose.0) rose.2)) s.counts runs.counts;
+          subst (λ (l : List ℕ). LiveEnds c budget f l new result) ((writing_touches Ours' start d s.uses).left stream given.input given.apart)
+          (runs.ends (subst IsTrue (sym s.uses.touches.told) told));
     }

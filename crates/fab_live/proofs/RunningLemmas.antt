@@ -149,7 +149,7 @@ module _ (c : Settings) (f : LiveSlots) (packets : List NgRecord) (J : Journal) 
         entry_list = K;
         run = record { run = sofar'.run; faces = faces'; span = span_more c packets r l.first R.first w w_here R.span timely; kept = kept_more packets r R.kept kept };
         hold = λ told.
-            let told_a = subst IsTrue wr.touches.told told in
+            let told_a = subst IsTrue wr.uses.touches.told told in
             let had = R.hold told_a in
             let both = wr.front told_a (text J) (text K) (captures c n J) (captures c n K) (λ q. classic_bytes (of_face q (arrived 0 packets))) (λ q. classic_bytes (of_face q (arrived 0 (packets ++ r ∷ [])))) had.wholes had.came text_on captures_on grows' in
             record { fronts = record { before = Some J; begins = (events, refl); hold = both.0 }; came = both.1; order = both.2 };
@@ -182,7 +182,7 @@ module _ (c : Settings) (f : LiveSlots) (packets : List NgRecord) (J : Journal) 
           nothing = none;
           pages = pages_are;
           hold = λ told.
-              let told_a = subst IsTrue wr.touches.told told in
+              let told_a = subst IsTrue wr.uses.touches.told told in
               let had = R.hold told_a in
               let both = wr.whole told_a (text J) (text K) (captures c n J) (captures c n K) (λ q. classic_bytes (of_face q (arrived 0 packets))) (λ q. classic_bytes (of_face q (arrived 0 (packets ++ r ∷ [])))) had.wholes had.came text_on captures_on grows' in
               record { wholes = both.0; came = both.1 };

@@ -4,11 +4,10 @@ use Rattle.std.specs.Prelude.{Result}
 use Rattle.std.specs.Result.{IsErrAnd}
 use Rattle.std.proofs.lemmas.Bool.{cases_order}
 use Rattle.std.proofs.lemmas.List.{append-nil, take-append-drop}
-use Rattle.fab_base.specs.Ending.{end_by}
-use Rattle.fab_base.specs.Seen.{Seen, Rose, SameWriteFaults, PutsAll, Touches, Only}
+use Rattle.fab_base.specs.Ending.{Write, end_by, Uses}
+use Rattle.fab_base.specs.Seen.{Seen, PutsAll, Touches, Nothing, Only}
 use Rattle.fab_base.specs.declared.values.Failed.{Failed}
-use Rattle.fab_base.proofs.EndingLemmas.{none_then}
-use Rattle.fab_base.proofs.SeenLemmas.{touches_trans, touches_wider, keeps_touches}
+use Rattle.fab_base.proofs.EndingLemmas.{puts_all_uses, uses_none, uses_refused, uses_then, uses_wider}
 use Rattle.fab_base.specs.Slots.{name_of, slot_at, NameIn}
 use Rattle.run_files.specs.Pages.{piece_at}
 use Rattle.run_files.proofs.OutputLemmas.{stays_named, same_name, outputs_stay}
@@ -18,7 +17,7 @@ use Rattle.fab_windows.proofs.UsesLemmas.{writing_touches}
 use Rattle.fab_windows.proofs.ResultLemmas.{err_is}
 use Rattle.fab_live.specs.declared.fault.LiveFault.{LiveFault}
 use Rattle.fab_live.specs.declared.fault.LiveFault.TheVariants as fault
-use Rattle.fab_live.specs.Files.{LiveSlots, LiveNames, AreLive, Came, CameSome, GrowsAt, live_end, CountsWrites, WritesPacket}
+use Rattle.fab_live.specs.Files.{LiveSlots, LiveNames, AreLive, Came, CameSome, GrowsAt, live_end, WritesPacket}
 
 pub moved : (d : Seen) {m n : List ℕ} {x : Option (List ℕ)} → m ≡ n → d.file m ≡ x → d.file n ≡ x
 moved d {m} {n} {x} e h = subst (λ k. d.file k ≡ x) e h
@@ -30,8 +29,12 @@ equal_or_not q p = elim (cases_order q p) [
 ]
 
 -- a fault that is handed on
-pub counts_on : {T : Type 0} (f : LiveSlots) (a b : Seen) (r : Result T LiveFault) (e : LiveFault) → IsErrAnd r (λ x. x ≡ e) → CountsWrites f (live_end e) a b → CountsWrites f (end_by live_end r) a b
-counts_on f a b r e is h = subst (λ y. CountsWrites f (end_by live_end y) a b) (err_is r e is) h
+pub uses_on : {T : Type 0} (names : List ℕ → Type 0) (a b : Seen) (r : Result T LiveFault) (e : LiveFault) → IsErrAnd r (λ x. x ≡ e) → Uses Nothing names (live_end e) a b → Uses Nothing names (end_by live_end r) a b
+uses_on names a b r e is u = subst (λ y. Uses Nothing names (end_by live_end y) a b) (err_is r e is) u
+
+-- memory was refused before anything was written
+pub uses_no_more : {T : Type 0} (names : List ℕ → Type 0) (a : Seen) (r : Result T LiveFault) → IsErrAnd r (λ x. x ≡ fault.Memory) → Uses Nothing names (end_by live_end r) a a
+uses_no_more names a r is = uses_on names a a r fault.Memory is (uses_refused Nothing names a a (uses_none Nothing names a))
 
 -- files of a forwarder that runs stay so
 module _ (f : LiveSlots) (F G : List ℕ → Type 0) (a b : Seen) (g : AreLive a f) (k : Touches F G a b) where
@@ -49,14 +52,6 @@ module _ (f : LiveSlots) (F G : List ℕ → Type 0) (a b : Seen) (g : AreLive a
     apart = λ m n w. g.apart m (in_before m n) (written_before m w);
   }
 
--- a fault of writing journal and outputs, where none was counted before
-module _ (f : LiveSlots) (F G : List ℕ → Type 0) (a b : Seen) (g : AreLive a f) (k : Touches F G a b) (lines : List ℕ) (pieces : List (List ℕ)) (d : Seen) where
-  rose_from : SameWriteFaults a b → (m : List ℕ) → Written b f.journal f.outs m → Rose (b.write_faults m) (d.write_faults m) → (m : List ℕ) × LiveNames a f m × Rose (a.write_faults m) (d.write_faults m)
-  rose_from same m named rose = (m, inr (written_before f F G a b g k m named), subst (λ (n : ℕ). Rose n (d.write_faults m)) (same m) rose)
-
-  pub writes_rose : (e : Failed) → SameWriteFaults a b → Writes f.journal f.outs lines pieces b d (Err e) → (m : List ℕ) × LiveNames a f m × Rose (a.write_faults m) (d.write_faults m)
-  writes_rose e same w = let rose = w.uses.counts.0 in rose_from same rose.0 rose.1 rose.2
-
 module _ (f : LiveSlots) (place : ℕ) (within : place < length f.ins) (piece : List ℕ) (a b : Seen) (g : AreLive a f) where
   abbrev F : List ℕ → Type 0
   F = LiveNames a f
@@ -67,8 +62,11 @@ module _ (f : LiveSlots) (place : ℕ) (within : place < length f.ins) (piece : 
   -- ---- the record
 
   module _ {r : Result (Unit {0}) Failed} (puts : PutsAll slot piece a b r) where
+    first_uses : Uses Nothing F (end_by (λ e. Write) r) a b
+    first_uses = uses_wider Nothing (Only (a.name slot)) Nothing F (λ m x. x) (λ m e. inl (place, within, e)) (end_by (λ e. Write) r) a b (puts_all_uses a b slot piece r puts)
+
     first : Touches F F a b
-    first = touches_wider (Only (a.name slot)) (Only (a.name slot)) F F a b (λ m e. inl (place, within, e)) (λ m e. inl (place, within, e)) (keeps_touches (a.name slot) a b puts.keeps)
+    first = writing_touches F a b first_uses
 
     pub live_b : AreLive b f
     live_b = live_stays f F F a b g first
@@ -106,7 +104,7 @@ module _ (f : LiveSlots) (place : ℕ) (within : place < length f.ins) (piece : 
 
   pub record_failed : (p : Pending) (e : Failed) → PutsAll {T = Unit {0}} {E = Failed} slot piece a b (Err e) → WritesPacket f place piece p a b (Err fault.Write)
   record_failed p e puts = record {
-    touches = first puts;
+    uses = first_uses puts;
     files = live_b puts;
     whole = λ told l l' r r' v v' h came is more grows. tt;
     front = λ told l l' r r' v v' h came is more grows.
@@ -119,18 +117,23 @@ module _ (f : LiveSlots) (place : ℕ) (within : place < length f.ins) (piece : 
           came_some puts told v v' came grows,
           inr (hold_b puts l r h),
         );
-    counts = ((a.name slot, inl (place, within, refl), puts.cause), puts.reads);
   }
 
   -- ---- journal and outputs behind it
 
   module _ (p : Pending) (d : Seen) (puts : PutsAll {T = Unit {0}} {E = Failed} slot piece a b (Ok tt)) where
     module _ {z : Result (Unit {0}) Failed} (w : Writes f.journal f.outs p.lines p.pieces b d z) where
+      second_uses : Uses Nothing F (end_by (λ e. Write) z) b d
+      second_uses = uses_wider Nothing (Written b f.journal f.outs) Nothing F (λ m x. x) (λ m x. inr (written_before f F F a b g (first puts) m x)) (end_by (λ e. Write) z) b d w.uses
+
       second : Touches F F b d
-      second = touches_wider (Written b f.journal f.outs) (Written b f.journal f.outs) F F b d (λ m x. inr (written_before f F F a b g (first puts) m x)) (λ m x. inr (written_before f F F a b g (first puts) m x)) (writing_touches (Written b f.journal f.outs) b d w.uses)
+      second = writing_touches F b d second_uses
+
+      uses_both : Uses Nothing F (end_by (λ e. Write) z) a d
+      uses_both = uses_then Nothing F (end_by (λ e. Write) z) a b d (first_uses puts) second_uses
 
       both : Touches F F a d
-      both = touches_trans F F a b d (first puts) second
+      both = writing_touches F a d uses_both
 
       live_d : AreLive d f
       live_d = live_stays f F F a d g both
@@ -150,18 +153,16 @@ module _ (f : LiveSlots) (place : ℕ) (within : place < length f.ins) (piece : 
 
     pub packet_written : Writes f.journal f.outs p.lines p.pieces b d (Ok tt) → WritesPacket f place piece p a d (Ok tt)
     packet_written w = record {
-      touches = both w;
+      uses = uses_both w;
       files = live_d w;
       whole = λ told l l' r r' v v' h came is more grows. (w.whole (told_b w told) l l' r r' (hold_b puts l r h) is more, came_d w v' (came_all puts told v v' came grows));
       front = λ told l l' r r' v v' h came is more grows. (w.front (told_b w told) l l' r r' (hold_b puts l r h) is more, some_of w v' (came_d w v' (came_all puts told v v' came grows)), inl (came_d w v' (came_all puts told v v' came grows)));
-      counts = none_then a b d (puts.reads, puts.counts) w.uses.counts;
     }
 
     pub packet_failed : (e : Failed) → Writes f.journal f.outs p.lines p.pieces b d (Err e) → WritesPacket f place piece p a d (Err fault.Write)
     packet_failed e w = record {
-      touches = both w;
+      uses = uses_both w;
       files = live_d w;
       whole = λ told l l' r r' v v' h came is more grows. tt;
       front = λ told l l' r r' v v' h came is more grows. (w.front (told_b w told) l l' r r' (hold_b puts l r h) is more, some_of w v' (came_d w v' (came_all puts told v v' came grows)), inl (came_d w v' (came_all puts told v v' came grows)));
-      counts = (writes_rose f F F a b g (first puts) p.lines p.pieces d e puts.counts w, λ m. w.uses.counts.1 m ∙ puts.reads m);
     }

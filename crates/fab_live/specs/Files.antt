@@ -1,8 +1,8 @@
 -- The files of a forwarder that runs, and what writing to them keeps and leaves.
 use Rattle.std.specs.Prelude.{◌≡◌, ◌≢◌, ℕ, ◌<◌, ◌⊎◌, IsTrue, List, ◌++◌, length, Some, Result, OnOk}
 use Rattle.fab_base.specs.Ending as ending
-use Rattle.fab_base.specs.Ending.{End, end_by, Counts, RoseIn, HoldsSome}
-use Rattle.fab_base.specs.Seen.{Seen, Touches}
+use Rattle.fab_base.specs.Ending.{End, end_by, Uses, HoldsSome}
+use Rattle.fab_base.specs.Seen.{Seen, Nothing}
 use Rattle.fab_base.specs.Slots.{name_of, NameIn}
 use Rattle.run_files.specs.Outputs.{AreOutputs}
 use Rattle.run_files.specs.Pages.{piece_at}
@@ -52,15 +52,10 @@ live_end fault.Read = ending.Read
 live_end fault.Write = ending.Write
 live_end fault.Memory = ending.Memory
 
--- Which faults of the store are counted where files are written that end so: none of reading, and one of writing exactly where it ends
--- in one.
-abbrev pub CountsWrites : LiveSlots → End → Seen → Seen → Type 0
-CountsWrites f end old new = Counts ⊥ (RoseIn (LiveNames old f) old.write_faults new.write_faults) end old new
-
 -- Writing a packet: its record behind the capture of its port, and lines and pieces behind journal and outputs. Where it fails each file
 -- holds a beginning of that, written in this order: what came is whole, or journal and outputs are as they were.
 pub record WritesPacket (f : LiveSlots) (place : ℕ) (piece : List ℕ) (p : Pending) (old new : Seen) (result : Result (Unit {0}) LiveFault) : Type 0 where
-  pub touches : Touches (LiveNames old f) (LiveNames old f) old new
+  pub uses : Uses Nothing (LiveNames old f) (end_by live_end result) old new
   pub files : AreLive new f
   pub whole : IsTrue old.told → (l l' : List ℕ) (r r' b b' : ℕ → List ℕ) → Hold old f.journal f.outs l r → Came old f.ins b
       → l' ≡ l ++ p.lines → ((q : ℕ) → q < length f.outs → r' q ≡ r q ++ piece_at p.pieces q) → GrowsAt place piece b b'
@@ -68,4 +63,3 @@ pub record WritesPacket (f : LiveSlots) (place : ℕ) (piece : List ℕ) (p : Pe
   pub front : IsTrue old.told → (l l' : List ℕ) (r r' b b' : ℕ → List ℕ) → Hold old f.journal f.outs l r → Came old f.ins b
       → l' ≡ l ++ p.lines → ((q : ℕ) → q < length f.outs → r' q ≡ r q ++ piece_at p.pieces q) → GrowsAt place piece b b'
       → HoldFronts new f.journal f.outs (file_bytes l r) (file_bytes l' r') × CameSome new f.ins b' × (Came new f.ins b' ⊎ Hold new f.journal f.outs l r)
-  pub counts : CountsWrites f (end_by live_end result) old new

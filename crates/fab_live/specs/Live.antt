@@ -1,7 +1,7 @@
 -- What a forwarder that runs leaves in its files behind each packet, and however its stream ends.
 use Rattle.std.specs.Prelude.{◌≡◌, ℕ, ◌+◌, ◌-◌, ◌<◌, ◌≤◌, ◌^◌, min, ◌⊎◌, IsTrue, IfSome, List, [], ◌∷◌, ◌++◌, length, Some, None, slice_get, Result, Ok, Err, OnOk, IfErr}
-use Rattle.fab_base.specs.Ending.{End, end_by, Counts, RoseIn}
-use Rattle.fab_base.specs.Seen.{Seen, Rose, Touches}
+use Rattle.fab_base.specs.Ending.{end_by, Uses}
+use Rattle.fab_base.specs.Seen.{Seen, Nothing, Only}
 use Rattle.fab_config.specs.Settings.{Settings}
 use Rattle.pcap_file.specs.declared.Budget.{Budget}
 use Rattle.pcapng_file.specs.declared.NgRecord.{NgRecord}
@@ -23,7 +23,7 @@ use Rattle.fab_windows.specs.Steps.{Sofar}
 use Rattle.fab_live.specs.declared.live.Live.{Live}
 use Rattle.fab_live.specs.declared.fault.LiveFault.{LiveFault}
 use Rattle.fab_live.specs.declared.fault.LiveFault.TheVariants as fault
-use Rattle.fab_live.specs.Files.{LiveSlots, LiveNames, AreLive, Came, CameSome, live_end, CountsWrites}
+use Rattle.fab_live.specs.Files.{LiveSlots, LiveNames, AreLive, Came, CameSome, live_end}
 use Rattle.fab_live.specs.Arriving.{arrived, greatest_of, of_face, records_of, AllFaces, first_start, IsInSpan}
 
 -- ---- files
@@ -187,24 +187,16 @@ LiveEnds c budget f stream d (Err fault.Read) = (packets : List NgRecord) × Beg
 LiveEnds c budget f stream d (Err fault.Write) = (packets : List NgRecord) × Begins packets stream × LeftBroken c d f packets
 LiveEnds c budget f stream d (Err fault.Memory) = (packets : List NgRecord) × Begins packets stream × LeftRefused c d f packets
 
--- Of the faults of the store exactly that one is counted in which it ends: of reading the stream, or of writing a file. So want of
--- memory never stands for one.
-abbrev pub CountsFaults : ℕ → LiveSlots → End → Seen → Seen → Type 0
-CountsFaults stream f end old new =
-    Counts (Rose (old.read_faults (old.name stream)) (new.read_faults (old.name stream))) (RoseIn (LiveNames old f) old.write_faults new.write_faults) end old new
-
--- A forwarder that ran over a stream.
+-- A forwarder that ran over a stream, which it reads, while it writes the files.
 pub record LiveRuns (c : Settings) (budget : Budget) (stream : ℕ) (f : LiveSlots) (old new : Seen) (result : Result Done LiveFault) : Type 0 where
-  pub touches : Touches (LiveNames old f) (λ m. LiveNames old f m ⊎ (m ≡ old.name stream)) old new
+  pub uses : Uses (Only (old.name stream)) (LiveNames old f) (end_by live_end result) old new
   pub ends : IsTrue old.told → LiveEnds c budget f (old.left stream) new result
-  pub counts : CountsFaults stream f (end_by live_end result) old new
 
 -- ---- inside the crate
 
 -- The heads of all files, which were empty, are written, of whichever configuration; or beginnings of them are.
 pub record StartsFiles {T : Type 0} (f : LiveSlots) (old new : Seen) (result : Result T LiveFault) : Type 0 where
-  pub touches : Touches (LiveNames old f) (LiveNames old f) old new
+  pub uses : Uses Nothing (LiveNames old f) (end_by live_end result) old new
   pub files : AreLive new f
   pub whole : (c : Settings) → OnOk result (IsTrue new.told → HoldLive c new f [] [])
   pub broken : (c : Settings) → IfErr result (λ e. IsUnwritten e × LeftBroken c new f [])
-  pub counts : CountsWrites f (end_by live_end result) old new

@@ -8,9 +8,9 @@ ghost use Rattle.pcapng_file.specs.File.{IsPacketKept};
 ghost use Rattle.pcapng_file.specs.declared.NgRecord as of_stream;
 ghost use Rattle.fab_windows.specs.Files.{GoesOn};
 ghost use Rattle.fab_live.specs.Arriving as arriving;
-ghost use Rattle.fab_base.specs.Ending.{end_by};
-ghost use Rattle.fab_base.specs.Seen.{Touches};
-ghost use Rattle.fab_live.specs.Files.{slots_of, LiveNames, live_end, CountsWrites};
+ghost use Rattle.fab_base.specs.Ending.{Uses, end_by};
+ghost use Rattle.fab_base.specs.Seen.{Nothing};
+ghost use Rattle.fab_live.specs.Files.{slots_of, LiveNames, live_end};
 ghost use Rattle.fab_live.specs.Live.{Running, LeavesPacket};
 
 use crate::files::write_packet;
@@ -61,11 +61,8 @@ impl Live {
             → MatchResult result (λ _. (K : Journal) × GoesOn J K
             × Running c (slots_of files.now) (packets ++ packet ∷ []) K self.new (D.seen depot.new))
             (λ e. LeavesPacket c (slots_of files.now) packets packet (D.seen depot.new) e) }
-        ensures touches { Touches (LiveNames (D.seen depot.old) (slots_of files.now))
-            (LiveNames (D.seen depot.old) (slots_of files.now)) (D.seen depot.old)
-            (D.seen depot.new) }
-        ensures faults { CountsWrites (slots_of files.now) (end_by live_end result)
-            (D.seen depot.old) (D.seen depot.new) }
+        ensures uses { Uses Nothing (LiveNames (D.seen depot.old) (slots_of files.now))
+            (end_by live_end result) (D.seen depot.old) (D.seen depot.new) }
     {
         // Law: what further entries and records change; a run goes on by a window's records.
         laws_of_runs();

@@ -2,7 +2,7 @@
 use Rattle.std.proofs.Common.{◌≡◌, ℕ, zero, suc, ◌+◌, ◌<◌, ◌≤◌, ◌^◌, ◌*◌, List, [], ◌∷◌, ◌⊎◌, Bool, true, false, length, Some, Ok, Err, IsTrue, refl, sym, ap, ◌∙◌, subst, arith, inl, inr}
 use Rattle.std.specs.Prelude.{Result, String, map, get_or, max, ◌==◌, if◌then◌else◌}
 use Rattle.std.specs.declared.alloc.Global.{Global}
-use Rattle.fab_base.specs.Ending.{End, Said, Read, Memory, NoFaults, IsPrefixOf, Uses}
+use Rattle.fab_base.specs.Ending.{End, Said, Read, Memory, NoFaults, IsPrefixOf, Uses, Either}
 use Rattle.fab_base.specs.Places.{name_at}
 use Rattle.fab_base.specs.Seen.{Seen, SameFiles, Touches, Nothing, Only, OpensIn, Rose}
 use Rattle.fab_base.specs.declared.values.Failed.{Failed}
@@ -415,7 +415,7 @@ module _ (words : List (String Global)) (live : is_live words ≡ true) (safe : 
       rise_writes name = le_trans (used_s.touches.writes_rise name) (r.opens.touches.writes_rise name)
 
       -- what it did
-      module _ (b : Seen) (touches : Touches (LiveNames a fs) (λ name. LiveNames a fs name ⊎ (name ≡ a.name stream)) a b) where
+      module _ (b : Seen) (touches : Touches (LiveNames a fs) (Either (Only (a.name stream)) (LiveNames a fs)) a b) where
         others : KeepsOthers (Live kk) old b
         others name none =
             let apart = none_among (kk.journal ∷ by_port kk.ins kk.outs) name none in
@@ -479,41 +479,41 @@ module _ (words : List (String Global)) (live : is_live words ≡ true) (safe : 
         refused told packets why (inr broken) = inr (inr (front told packets why broken.1, broken.0))
 
       pub live_ended : (b : Seen) (x : Result Done LiveFault) → LiveRuns c LIMITS stream fs a b x → Holds (Live kk) old b (lived_by x)
-      live_ended b (Ok done) x = (others b x.touches, λ told. finished b x.touches done told (x.ends (told_a told)), none_then old a b quiet_a x.counts)
+      live_ended b (Ok done) x = (others b x.uses.touches, λ told. finished b x.uses.touches done told (x.ends (told_a told)), none_then old a b quiet_a x.uses.counts)
       live_ended b (Err (fault.Block at why)) x =
-          (others b x.touches, λ told. let e = x.ends (told_a told) in halted b x.touches (IsFaulty at why) told e.0 e.1 e.2, none_then old a b quiet_a x.counts)
+          (others b x.uses.touches, λ told. let e = x.ends (told_a told) in halted b x.uses.touches (IsFaulty at why) told e.0 e.1 e.2, none_then old a b quiet_a x.uses.counts)
       live_ended b (Err (fault.Port face)) x = (
-        others b x.touches,
-        λ told. let e = x.ends (told_a told) in halted b x.touches (IsNoPort kk face) told e.0 (e.1, e.2, e.3, e.4, let le = e.5 in omega (arith, le, width.1)) e.6,
-        none_then old a b quiet_a x.counts,
+        others b x.uses.touches,
+        λ told. let e = x.ends (told_a told) in halted b x.uses.touches (IsNoPort kk face) told e.0 (e.1, e.2, e.3, e.4, let le = e.5 in omega (arith, le, width.1)) e.6,
+        none_then old a b quiet_a x.uses.counts,
       )
       live_ended b (Err (fault.Limit kinds.Bytes)) x =
-          (others b x.touches, λ told. let e = x.ends (told_a told) in halted b x.touches (IsPast kk kinds.Bytes) told e.0 e.1 e.2, none_then old a b quiet_a x.counts)
+          (others b x.uses.touches, λ told. let e = x.ends (told_a told) in halted b x.uses.touches (IsPast kk kinds.Bytes) told e.0 e.1 e.2, none_then old a b quiet_a x.uses.counts)
       live_ended b (Err (fault.Limit kinds.Frames)) x =
-          (others b x.touches, λ told. let e = x.ends (told_a told) in halted b x.touches (IsPast kk kinds.Frames) told e.0 e.1 e.2, none_then old a b quiet_a x.counts)
+          (others b x.uses.touches, λ told. let e = x.ends (told_a told) in halted b x.uses.touches (IsPast kk kinds.Frames) told e.0 e.1 e.2, none_then old a b quiet_a x.uses.counts)
       live_ended b (Err (fault.Limit kinds.Span)) x = (
-        others b x.touches,
-        λ told. let e = x.ends (told_a told) in halted b x.touches (IsPast kk kinds.Span) told e.0 (e.1, e.2, e.3, (let lt = e.4 in omega (arith, lt, width.1)), e.5) e.6,
-        none_then old a b quiet_a x.counts,
+        others b x.uses.touches,
+        λ told. let e = x.ends (told_a told) in halted b x.uses.touches (IsPast kk kinds.Span) told e.0 (e.1, e.2, e.3, (let lt = e.4 in omega (arith, lt, width.1)), e.5) e.6,
+        none_then old a b quiet_a x.uses.counts,
       )
       live_ended b (Err fault.Read) x =
-          let rose = x.counts.0 in
+          let rose = rose_only (a.name stream) a.read_faults b.read_faults x.uses.counts.0 in
           let named : Rose (a.read_faults kk.stream) (b.read_faults kk.stream) = subst (λ name. Rose (a.read_faults name) (b.read_faults name)) stream_open.name_ rose in
           let since = rose_later (old.read_faults kk.stream) (a.read_faults kk.stream) (b.read_faults kk.stream) (rise_reads kk.stream) named in (
-            others b x.touches,
-            λ told. let e = x.ends (told_a told) in inr (inr (since, halted b x.touches IsBegun told e.0 e.1 e.2)),
-            (inr (inl since), λ name. x.counts.1 name ∙ quiet_a.1 name),
+            others b x.uses.touches,
+            λ told. let e = x.ends (told_a told) in inr (inr (since, halted b x.uses.touches IsBegun told e.0 e.1 e.2)),
+            (inr (inl since), λ name. x.uses.counts.1 name ∙ quiet_a.1 name),
           )
       live_ended b (Err fault.Write) x =
-          let rose = x.counts.0 in
+          let rose = x.uses.counts.0 in
           let all = kk.journal ∷ by_port kk.ins kk.outs in
           let among = written_among words live a files.journal files.ins.items files.outs.items r.slots width.0 width.1 rose.0 rose.1 in (
-            others b x.touches,
-            λ told. let e = x.ends (told_a told) in front b x.touches told e.0 e.1 e.2,
-            (rose_since old.write_faults a.write_faults b.write_faults rise_writes all (rose_among a.write_faults b.write_faults all rose.0 among rose.2), λ name. x.counts.1 name ∙ quiet_a.0 name),
+            others b x.uses.touches,
+            λ told. let e = x.ends (told_a told) in front b x.uses.touches told e.0 e.1 e.2,
+            (rose_since old.write_faults a.write_faults b.write_faults rise_writes all (rose_among a.write_faults b.write_faults all rose.0 among rose.2), λ name. x.uses.counts.1 name ∙ quiet_a.0 name),
           )
       live_ended b (Err fault.Memory) x =
-          (others b x.touches, λ told. let e = x.ends (told_a told) in refused b x.touches told e.0 e.1 e.2, none_then old a b quiet_a x.counts)
+          (others b x.uses.touches, λ told. let e = x.ends (told_a told) in refused b x.uses.touches told e.0 e.1 e.2, none_then old a b quiet_a x.uses.counts)
 
 -- ---- the lists as they are lent
 

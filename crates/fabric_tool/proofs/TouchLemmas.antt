@@ -108,7 +108,7 @@ lived_own words live old m s a b stream files read o opened width runs =
     let written = living.written_among words live a files.journal files.ins.items files.outs.items opened.slots width.0 width.1 in
     let is_stream : a.name stream ≡ (live_of words).stream = (opened.opens.touches.slots stream (inl o.opened.0)).name ∙ o.opened.2 in
     own_then k old a b (recorded_own words live old m s read o a opened)
-    (own_wider k _ _ a b written (λ n x. elim x [ inl w ↦ inr (written n w) | inr e ↦ inl (inr (inl (e ∙ is_stream))) ]) runs.touches)
+    (own_wider k _ _ a b written (λ n x. elim x [ inl e ↦ inl (inr (inl (e ∙ is_stream))) | inr w ↦ inr (written n w) ]) runs.uses.touches)
 
 -- ---- `replay` and `show`
 

@@ -70,7 +70,7 @@ packets-preserved g c =
     let seen = g.D.Depot.seen in
     let r = read_as _ _ _ _ _ c.in-Some.is c.in-Ok.ensures.reads in
     let on = c.in-Ok-take.ensures.takes c.args.live.now.fabric.settings c.packets.invariant.packets c.packets.invariant.entry_list (running_here c.args.live.now.fabric.settings (slots_of c.args.files.now) c.args.stream c.args.budget (seen c.args.depot.now) c.packets.live c.packets.packets (seen c.packets.depot) c.packets.invariant c.next.new.self (seen c.next.new.depot) c.in-Some.packet r) in
-    looping_on c.args.live.now.fabric.settings (slots_of c.args.files.now) c.args.stream c.args.budget (seen c.args.depot.now) c.packets.live c.packets.packets (seen c.packets.depot) c.packets.invariant c.next.new.self (seen c.next.new.depot) c.in-Some.packet r (seen c.take.new.depot) c.take.new.self on.0 c.in-Ok-take.ensures.touches c.in-Ok-take.ensures.faults on.2
+    looping_on c.args.live.now.fabric.settings (slots_of c.args.files.now) c.args.stream c.args.budget (seen c.args.depot.now) c.packets.live c.packets.packets (seen c.packets.depot) c.packets.invariant c.next.new.self (seen c.next.new.depot) c.in-Some.packet r (seen c.take.new.depot) c.take.new.self on.0 c.in-Ok-take.ensures.uses on.2
 
 pub returns-in-Err-take : goal.returns-in-Err-take
 returns-in-Err-take g c =
@@ -78,6 +78,6 @@ returns-in-Err-take g c =
     let r = read_as _ _ _ _ _ c.in-Some.is c.in-Ok.ensures.reads in
     record {
       runs =
-          refused c.args.live.now.fabric.settings (slots_of c.args.files.now) c.args.stream c.args.budget (seen c.args.depot.now) c.packets.live c.packets.packets (seen c.packets.depot) c.packets.invariant c.next.new.self (seen c.next.new.depot) c.in-Some.packet r (let h = c.if-packet-files.false in omega (arith, h)) (seen c.take.new.depot) c.in-Err-take.fault c.in-Err-take.ensures.touches c.in-Err-take.ensures.faults
+          refused c.args.live.now.fabric.settings (slots_of c.args.files.now) c.args.stream c.args.budget (seen c.args.depot.now) c.packets.live c.packets.packets (seen c.packets.depot) c.packets.invariant c.next.new.self (seen c.next.new.depot) c.in-Some.packet r (let h = c.if-packet-files.false in omega (arith, h)) (seen c.take.new.depot) c.in-Err-take.fault c.in-Err-take.ensures.uses
           (c.in-Err-take.ensures.takes c.args.live.now.fabric.settings c.packets.invariant.packets c.packets.invariant.entry_list (running_here c.args.live.now.fabric.settings (slots_of c.args.files.now) c.args.stream c.args.budget (seen c.args.depot.now) c.packets.live c.packets.packets (seen c.packets.depot) c.packets.invariant c.next.new.self (seen c.next.new.depot) c.in-Some.packet r));
     }

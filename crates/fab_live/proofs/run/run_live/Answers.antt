@@ -38,7 +38,7 @@ follow-requires-clause-running g c κs within =
 pub follow-requires-clause-open : goal.follow-requires-clause-open
 follow-requires-clause-open g c κs within =
     let seen = g.D.Depot.seen in
-    open_on c.args.fabric.settings (slots_of c.args.files.now) c.args.stream c.args.budget (seen c.args.depot.now) c.requires.given (seen c.begin.new.depot) c.in-Ok.ensures.starts.touches
+    open_on c.args.fabric.settings (slots_of c.args.files.now) c.args.stream c.args.budget (seen c.args.depot.now) c.requires.given (seen c.begin.new.depot) c.in-Ok.ensures.starts.uses
 
 pub returns : goal.returns
 returns g c =

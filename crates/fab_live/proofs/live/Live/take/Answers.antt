@@ -2,12 +2,12 @@ use Rattle.std.proofs.Common.{ℕ, ◌+◌, ◌-◌, ◌^◌, ◌∙◌, ap, sub
 use Rattle.std.specs.Prelude.{min, unwrap_or}
 use Rattle.std.proofs.Math.Facts.{Fits-of_lt}
 use Rattle.fab_policy.specs.Journal.{followed}
-use Rattle.fab_base.proofs.EndingLemmas.{none_yet}
+use Rattle.fab_base.specs.Seen.{Nothing}
+use Rattle.fab_base.proofs.EndingLemmas.{uses_none}
 use Rattle.fab_windows.proofs.ResultLemmas.{told_on}
-use Rattle.fab_live.specs.Files.{WritesPacket, slots_of}
+use Rattle.fab_live.specs.Files.{LiveNames, WritesPacket, slots_of}
 use Rattle.fab_windows.specs.Pages.{pending}
-use Rattle.fab_live.specs.declared.fault.LiveFault.TheVariants as fault
-use Rattle.fab_live.proofs.WriteLemmas.{counts_on}
+use Rattle.fab_live.proofs.WriteLemmas.{uses_no_more, uses_on}
 use Rattle.fab_live.proofs.RunningLemmas.{order_here, late_code, index_small, early_code, ranged_code, broken_code, running_code}
 use Rattle.fab_live.proofs.live.Live.take.Goals as goal
 
@@ -73,17 +73,24 @@ returns-then-is_too_late-clause-takes g c = λ k packets J R.
     late_code k (slots_of c.args.files.now) packets J c.args.self.now (seen c.args.depot.now) R c.args.packet c.requires.face c.requires.kept c.config.result.now c.config.ensures c.arrive-packet.result
     c.arrive-packet.ensures c.window_start-window.result c.window_start-window.ensures.value c.unwrap_or-first.result c.unwrap_or-first.ensures (sym c.is_too_late.ensures ∙ c.if-is_too_late.true)
 
--- ---- counts of faults
+-- ---- what it uses
 
-pub returns-in_err-drained-clause-faults : goal.returns-in_err-drained-clause-faults
-returns-in_err-drained-clause-faults g c = counts_on (slots_of c.args.files.now) (g.D.Depot.seen c.args.depot.now) (g.D.Depot.seen c.args.depot.now) c.from_residual.result fault.Memory c.from_residual.ensures.1 (none_yet (g.D.Depot.seen c.args.depot.now))
+pub returns-in_err-drained-clause-uses : goal.returns-in_err-drained-clause-uses
+returns-in_err-drained-clause-uses g c = let seen = g.D.Depot.seen in uses_no_more (LiveNames (seen c.args.depot.now) (slots_of c.args.files.now)) (seen c.args.depot.now) c.from_residual.result c.from_residual.ensures.1
 
-pub returns-in_err-record-clause-faults : goal.returns-in_err-record-clause-faults
-returns-in_err-record-clause-faults g c = counts_on (slots_of c.args.files.now) (g.D.Depot.seen c.args.depot.now) (g.D.Depot.seen c.args.depot.now) c.from_residual-in_err-record.result fault.Memory c.from_residual-in_err-record.ensures.1 (none_yet (g.D.Depot.seen c.args.depot.now))
+pub returns-in_err-record-clause-uses : goal.returns-in_err-record-clause-uses
+returns-in_err-record-clause-uses g c = let seen = g.D.Depot.seen in uses_no_more (LiveNames (seen c.args.depot.now) (slots_of c.args.files.now)) (seen c.args.depot.now) c.from_residual-in_err-record.result c.from_residual-in_err-record.ensures.1
 
-pub returns-in_err-add-clause-faults : goal.returns-in_err-add-clause-faults
-returns-in_err-add-clause-faults g c = counts_on (slots_of c.args.files.now) (g.D.Depot.seen c.args.depot.now) (g.D.Depot.seen c.args.depot.now) c.from_residual-in_err-add.result fault.Memory c.from_residual-in_err-add.ensures.1 (none_yet (g.D.Depot.seen c.args.depot.now))
+pub returns-in_err-add-clause-uses : goal.returns-in_err-add-clause-uses
+returns-in_err-add-clause-uses g c = let seen = g.D.Depot.seen in uses_no_more (LiveNames (seen c.args.depot.now) (slots_of c.args.files.now)) (seen c.args.depot.now) c.from_residual-in_err-add.result c.from_residual-in_err-add.ensures.1
 
-pub returns-in_err-write_packet-clause-faults : goal.returns-in_err-write_packet-clause-faults
-returns-in_err-write_packet-clause-faults g c =
-    counts_on (slots_of c.args.files.now) (g.D.Depot.seen c.args.depot.now) (g.D.Depot.seen c.write_packet.new.depot) c.from_residual-in_err-write_packet.result c.in_err-write_packet.field-0.0 c.from_residual-in_err-write_packet.ensures.1 c.in_err-write_packet.ensures.writes.counts
+pub returns-in_err-write_packet-clause-uses : goal.returns-in_err-write_packet-clause-uses
+returns-in_err-write_packet-clause-uses g c =
+    let seen = g.D.Depot.seen in
+    uses_on (LiveNames (seen c.args.depot.now) (slots_of c.args.files.now)) (seen c.args.depot.now) (seen c.write_packet.new.depot) c.from_residual-in_err-write_packet.result c.in_err-write_packet.field-0.0 c.from_residual-in_err-write_packet.ensures.1 c.in_err-write_packet.ensures.writes.uses
+
+pub returns-clause-uses : goal.returns-clause-uses
+returns-clause-uses g c = c.in_ok-write_packet.ensures.writes.uses
+
+pub returns-then-is_too_late-clause-uses : goal.returns-then-is_too_late-clause-uses
+returns-then-is_too_late-clause-uses g c = let seen = g.D.Depot.seen in uses_none Nothing (LiveNames (seen c.args.depot.now) (slots_of c.args.files.now)) (seen c.args.depot.now)
