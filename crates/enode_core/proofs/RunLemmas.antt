@@ -1,5 +1,5 @@
 -- A run over records is one, and what it hears are those records from the start on.
-use Rattle.std.proofs.Common.{◌≡◌, ℕ, ◌<◌, ◌≤◌, Bool, true, false, cond, List, [], ◌∷◌, ◌++◌, nat_le, refl, sym, ap, subst, ◌∙◌, arith}
+use Rattle.std.proofs.Common.{◌≡◌, ℕ, ◌<◌, ◌≤◌, Bool, true, false, cond, List, [], ◌∷◌, ◌++◌, append-nil, nat_le, refl, sym, ap, subst, ◌∙◌, arith}
 use Rattle.fab_config.specs.Settings.{Settings}
 use Rattle.fab_policy.specs.Journal.{Journal}
 use Rattle.pcap_file.specs.declared.Record.{Record}
@@ -59,13 +59,9 @@ heard-append [] ys = refl
 heard-append (Timer ∷ xs) ys = heard-append xs ys
 heard-append (Heard r ∷ xs) ys = ap (λ l. r ∷ l) (heard-append xs ys)
 
-no_more : {X : Type 0} (xs : List X) → xs ++ [] ≡ xs
-no_more [] = refl
-no_more (x ∷ xs) = ap (λ l. x ∷ l) (no_more xs)
-
 pub runs_are_granted : RunsAreGranted
 runs_are_granted own start records inputs typed run given later kept a node_due port_due at parts up c n p J range bytes legal outs sent_by =
-    let all : heard inputs ≡ from start records = sym (no_more (heard inputs)) ∙ heard_left own (begun own start).state (from start records) inputs [] run in
+    let all : heard inputs ≡ from start records = sym (append-nil (heard inputs)) ∙ heard_left own (begun own start).state (from start records) inputs [] run in
     let here : AreOutputs c n p J (heard given ++ heard later) = subst (AreOutputs c n p J) (sym all ∙ ap heard parts ∙ heard-append given later) (outputs_filter c n p J start records outs) in
     up_is_granted own start given later kept a node_due port_due at c n p J typed range bytes legal (outputs_front c n p J (heard given) (heard later) here)
     (subst (λ xs. AreFrom p own.mac (all_sent own start xs) J) parts sent_by) up

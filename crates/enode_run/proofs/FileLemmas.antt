@@ -1,8 +1,9 @@
 -- A node over files: the input is read whole, and then the output is written.
-use Rattle.std.proofs.Common.{◌≡◌, ℕ, Bool, true, false, cond, IsTrue, List, [], ◌∷◌, take, Some, Ok, Err, refl, sym, ap, ◌∙◌, subst, arith}
+use Rattle.std.proofs.Common.{◌≡◌, ℕ, Bool, true, false, cond, IsTrue, List, [], ◌∷◌, take, drop, Some, Ok, Err, inl, inr, refl, sym, ap, ◌∙◌, subst, arith}
+use Rattle.std.proofs.lemmas.List.{take-append-drop}
 use Rattle.std.specs.Prelude.{Result}
 use Rattle.fab_base.specs.Ending as ending
-use Rattle.fab_base.specs.Ending.{End, end_by, Uses}
+use Rattle.fab_base.specs.Ending.{End, end_by, Uses, IsOldOrFront}
 use Rattle.fab_base.specs.Seen.{Seen, SameFiles, Nothing, Only, OpensIn, OpensOut, PutsAll}
 use Rattle.fab_base.specs.declared.values.Failed.{Failed}
 use Rattle.fab_base.proofs.SeenLemmas.{told_stays}
@@ -113,14 +114,14 @@ module _ (to bytes : List ℕ) (out : ℕ) (a b c : Seen) (opens : OpensOut {E =
   wrote_part failed p = record {
     uses = written (Err failed) p;
     whole = λ told. tt;
-    part = λ told. let part = p.part (told_out told) [] (empty told) in steps.Front part.0 (subst (λ n. c.file n ≡ Some (take part.0 bytes)) is_out part.1);
+    part = λ told. let part = p.part (told_out told) [] (empty told) in inr (take part.0 bytes, subst (λ n. c.file n ≡ Some (take part.0 bytes)) is_out part.1, drop part.0 bytes, take-append-drop part.0 bytes);
   }
 
 pub unwritten : (to bytes : List ℕ) (a b : Seen) (failed : Failed) → OpensOut {E = Failed} to a b (Err failed) → WritesFile {T = Unit {0}} {E = Failed} to bytes a b (Err failed)
 unwritten to bytes a b failed o = record {
   uses = opens_out_uses a b to (Err failed) o;
   whole = λ told. tt;
-  part = λ told. steps.As o.same;
+  part = λ told. inl o.same;
 }
 
 -- ---- the run
@@ -176,11 +177,11 @@ module _ (own : Identity) (start : ℕ) (from to : List ℕ) (budget : Budget) (
             granted = granted own start records at.given typed at.begins;
           }
 
-      front : steps.IsPart to bytes b c → IsTrue a.told → files.IsFront (node_task own start from to budget) a c
-      front (steps.As e) told = files.Same (e ∙ same h.uses to)
-      front (steps.Front n e) told =
+      front : IsOldOrFront b c to bytes → IsTrue a.told → files.IsFront (node_task own start from to budget) a c
+      front (inl e) told = files.Same (e ∙ same h.uses to)
+      front (inr some) told =
           let t = h.taken told in
-          files.Front t.bytes records at.given n t.found t.says at.begins (e ∙ ap (λ (l : List ℕ). Some (take n l)) (is_file ∙ at.holds))
+          files.Front t.bytes records at.given t.found t.says at.begins (some.0, some.1, some.2.0, some.2.1 ∙ is_file ∙ at.holds)
 
       pub unwritten_run : (failed : Failed) → WritesFile {T = Unit {0}} {E = Failed} to bytes b c (Err failed) → RunsNode (node_task own start from to budget) a c (Err faults.Write)
       unwritten_run failed w = λ told. front (w.part (told_then told)) told

@@ -1,5 +1,6 @@
 -- What a node does with files: a capture that its port receives, and the capture of what it sends.
-use Rattle.std.specs.Prelude.{◌≡◌, ℕ, if◌then◌else◌, IsTrue, List, take, Some, Result, Ok, Err}
+use Rattle.std.specs.Prelude.{◌≡◌, ℕ, if◌then◌else◌, IsTrue, List, Some, Result, Ok, Err}
+use Rattle.fab_base.specs.Ending.{HoldsSome}
 use Rattle.fab_base.specs.Seen.{Seen, SameFiles}
 use Rattle.pcap_file.specs.declared.Budget.{Budget}
 use Rattle.pcap_file.specs.declared.Record.{Record}
@@ -65,8 +66,8 @@ pub record Played (task : NodeTask) (old new : Seen) (phase : Phase) : Type 0 wh
 -- The output is as it was, or it holds a front of the capture of what the node sends over the input that was found.
 pub data IsFront (task : NodeTask) (old new : Seen) : Type 0 where
   Same : new.file task.to ≡ old.file task.to → IsFront task old new
-  Front : (bytes : List ℕ) (records : List Record) (inputs : List Input) (n : ℕ) → old.file task.from ≡ Some bytes → taken_by task.budget task.start bytes ≡ Ok records → IsRun task.own task.start records inputs →
-      new.file task.to ≡ Some (take n (capture (all_sent task.own task.start inputs))) → IsFront task old new
+  Front : (bytes : List ℕ) (records : List Record) (inputs : List Input) → old.file task.from ≡ Some bytes → taken_by task.budget task.start bytes ≡ Ok records → IsRun task.own task.start records inputs →
+      HoldsSome new task.to (capture (all_sent task.own task.start inputs)) → IsFront task old new
 
 -- How running a node over files ends. The output is opened only behind the whole input and all that is sent for it: only where it
 -- couldn't be written, a front of it may stand.

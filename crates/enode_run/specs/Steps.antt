@@ -1,6 +1,6 @@
 -- What the two steps of a run over files do; private functions alone cite this.
-use Rattle.std.specs.Prelude.{◌≡◌, ℕ, IsTrue, List, take, Some, Result, Ok, IfOk, IfErr, OnOk, OnErr}
-use Rattle.fab_base.specs.Ending.{Write, end_by, Uses}
+use Rattle.std.specs.Prelude.{◌≡◌, ℕ, IsTrue, List, Some, Result, Ok, IfOk, IfErr, OnOk, OnErr}
+use Rattle.fab_base.specs.Ending.{Write, end_by, Uses, IsOldOrFront}
 use Rattle.fab_base.specs.Seen.{Seen, Nothing, Only}
 use Rattle.pcap_file.specs.declared.Budget.{Budget}
 use Rattle.pcap_file.specs.declared.Record.{Record}
@@ -22,13 +22,8 @@ pub record ReadsInput (start : ℕ) (from : List ℕ) (budget : Budget) (a b : S
   pub taken : IsTrue a.told → IfOk result (IsTaken start from budget a)
   pub stops : IsTrue a.told → IfErr result (λ e. IsStopped e → IsUntaken start from budget a e)
 
--- the file is as it was, or a front of these bytes
-pub data IsPart (to bytes : List ℕ) (a b : Seen) : Type 0 where
-  As : b.file to ≡ a.file to → IsPart to bytes a b
-  Front : (n : ℕ) → b.file to ≡ Some (take n bytes) → IsPart to bytes a b
-
 -- What writing a file does.
 pub record WritesFile {T E : Type 0} (to bytes : List ℕ) (a b : Seen) (result : Result T E) : Type 0 where
   pub uses : Uses Nothing (Only to) (end_by (λ e. Write) result) a b
   pub whole : IsTrue a.told → OnOk result (b.file to ≡ Some bytes)
-  pub part : IsTrue a.told → OnErr result (IsPart to bytes a b)
+  pub part : IsTrue a.told → OnErr result (IsOldOrFront a b to bytes)

@@ -1,5 +1,6 @@
 -- Migrating a file: the input is read whole, and then the output is written.
-use Rattle.std.proofs.Common.{◌≡◌, ℕ, ◌≤◌, IsTrue, List, [], length, take, Some, Ok, Err, refl, sym, ap, ◌∙◌, subst}
+use Rattle.std.proofs.Common.{◌≡◌, ℕ, ◌≤◌, IsTrue, List, [], length, take, drop, Some, Ok, Err, refl, sym, ap, ◌∙◌, subst}
+use Rattle.std.proofs.lemmas.List.{take-append-drop}
 use Rattle.std.specs.Prelude.{Result, Vec}
 use Rattle.std.specs.declared.alloc.Global.{Global}
 use Rattle.fab_base.specs.Ending.{End, Read, Write, end_by, CountsRead, Uses}
@@ -123,7 +124,7 @@ module _ (from to : List ℕ) (slot limit : ℕ) (a b c : Seen) (opens : OpensIn
         pub front : (failed : Failed) → PutsAll {T = Unit {0}} {E = Failed} out bytes d e (Err failed) → Migrates from to limit a e (Err (ends.Write failed))
         front failed p = λ told.
             let part = p.part (told_d told) [] (empty told) in
-            Begun v.items w.0 part.0 (found told) (within told) w.1 (subst (λ n. e.file n ≡ Some (take part.0 bytes)) is_out part.1 ∙ ap (λ (l : List ℕ). Some (take part.0 l)) all)
+            Begun v.items w.0 (found told) (within told) w.1 (take part.0 bytes, subst (λ n. e.file n ≡ Some (take part.0 bytes)) is_out part.1, drop part.0 bytes, take-append-drop part.0 bytes ∙ all)
 
         pub migrated : PutsAll {T = Unit {0}} {E = Failed} out bytes d e (Ok tt) → Migrates from to limit a e (Ok n.entries)
         migrated p = λ told.

@@ -1,7 +1,7 @@
 -- What migrating the journal in one file to another file does.
-use Rattle.std.specs.Prelude.{◌≡◌, ℕ, ◌≤◌, ◌<◌, List, length, take, IsTrue, Some, Result, Ok, Err}
+use Rattle.std.specs.Prelude.{◌≡◌, ℕ, ◌≤◌, ◌<◌, List, length, IsTrue, Some, Result, Ok, Err}
 use Rattle.fab_base.specs.Ending as ending
-use Rattle.fab_base.specs.Ending.{End}
+use Rattle.fab_base.specs.Ending.{End, HoldsSome}
 use Rattle.fab_base.specs.Seen.{Seen, SameFiles}
 use Rattle.fab_policy.specs.Journal.{Journal}
 use Rattle.fab_policy.specs.Ranged.{IsRanged}
@@ -47,7 +47,7 @@ pub record Migrated (from to : List ℕ) (limit : ℕ) (old new : Seen) (count :
 -- The output is as it was, or it holds a front of the input's journal in format 2.
 pub data IsNewFront (from to : List ℕ) (limit : ℕ) (old new : Seen) : Type 0 where
   Untouched : new.file to ≡ old.file to → IsNewFront from to limit old new
-  Begun : (bytes : List ℕ) (lines : List Line) (n : ℕ) → old.file from ≡ Some bytes → length bytes ≤ limit → IsOld bytes lines → new.file to ≡ Some (take n (new_text lines)) → IsNewFront from to limit old new
+  Begun : (bytes : List ℕ) (lines : List Line) → old.file from ≡ Some bytes → length bytes ≤ limit → IsOld bytes lines → HoldsSome new to (new_text lines) → IsNewFront from to limit old new
 
 -- How migrating ends. The output is opened only behind the whole input: an error of the input leaves every file.
 abbrev pub Migrates : List ℕ → List ℕ → ℕ → Seen → Seen → Result ℕ MigrateError → Type 0

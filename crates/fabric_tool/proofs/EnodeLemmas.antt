@@ -1,6 +1,5 @@
 -- What follows from how `enode` ended.
-use Rattle.std.proofs.Common.{◌≡◌, ℕ, List, ◌++◌, length, ◌⊎◌, Some, Ok, Err, IsTrue, refl, sym, ap, ◌∙◌, subst, arith, inl, inr}
-use Rattle.std.proofs.lemmas.List.{take_all}
+use Rattle.std.proofs.Common.{◌≡◌, ℕ, List, [], append-nil, ◌++◌, ◌⊎◌, Some, Ok, Err, IsTrue, refl, sym, ap, ◌∙◌, subst, arith, inl, inr}
 use Rattle.std.specs.Prelude.{Result}
 use Rattle.std.specs.Str.{bytes_eq}
 use Rattle.fab_base.specs.Ending.{end_by, Uses}
@@ -37,7 +36,7 @@ use Rattle.fabric_tool.proofs.ConfigLemmas.{same_text}
 whole_sent : (k : EnodeNames) (old new : Seen) (last : Phase) → HasPlayed k old new last → HasEnodeFront k old new
 whole_sent k old new last p =
     let whole = capture (all_sent k.own k.start p.inputs) in
-    Front p.bytes p.records p.inputs (length whole) p.found p.taken p.run (p.output ∙ ap (λ (l : List ℕ). Some l) (sym (take_all (length whole) whole (omega arith))))
+    Front p.bytes p.records p.inputs p.found p.taken p.run (whole, p.output, [], append-nil whole)
 
 enode_front : (k : EnodeNames) (old new : Seen) (o : Outcome) → Left (enode_ending k old new o) → HasEnodeFront k old new
 enode_front k old new (ends.Stood last) h = whole_sent k old new last h

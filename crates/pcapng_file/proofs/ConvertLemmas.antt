@@ -2,6 +2,7 @@
 use Rattle.std.proofs.Common.{◌≡◌, ℕ, suc, ◌+◌, IsTrue, List, [], ◌∷◌, ◌++◌, length, append_assoc, take, drop, Some, Ok, Err, refl, sym, ap, ◌∙◌, subst, arith}
 use Rattle.std.specs.Prelude.{Result, slice_get}
 use Rattle.std.proofs.Math.Seq.{drop-cons}
+use Rattle.std.proofs.lemmas.List.{take-append-drop}
 use Rattle.std.proofs.lemmas.Option.{slice_get_within, get_or_from_slice_get}
 use Rattle.fab_base.specs.Ending.{End, Read, Write, Memory, end_by, CountsRead, Uses}
 use Rattle.fab_base.specs.Seen.{Seen, Reads, Nothing, Only, OpensIn, OpensOut, PutsAll}
@@ -98,7 +99,8 @@ module _ (from to : List ℕ) (slot : ℕ) (budget left : Budget) (a b c : Seen)
       pub front : (failed : Failed) → bytes ≡ classic_bytes v → PutsAll {T = Unit {0}} {E = Failed} out bytes d e (Err failed) → Converts from to budget a e (Err (ends.Write failed))
       front failed made p = λ told.
           let part = p.part (told_stays to c d o.keeps (told_c told)) [] (ap d.file is_out ∙ o.emptied (told_c told)) in
-          Front (b.left slot) v part.0 (opens.left told) (read told).file ((read told).bytes, (read told).frames) (subst (λ n. e.file n ≡ Some (take part.0 bytes)) is_out part.1 ∙ ap (λ (l : List ℕ). Some (take part.0 l)) made)
+          Front (b.left slot) v (opens.left told) (read told).file ((read told).bytes, (read told).frames)
+          (take part.0 bytes, subst (λ n. e.file n ≡ Some (take part.0 bytes)) is_out part.1, drop part.0 bytes, take-append-drop part.0 bytes ∙ made)
 
       pub output_uses : (x : Result (Unit {0}) Failed) → PutsAll {T = Unit {0}} {E = Failed} out bytes d e x → Uses (Only from) (Only to) (end_by (λ f. Write) x) a e
       output_uses x p =

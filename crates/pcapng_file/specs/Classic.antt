@@ -1,8 +1,8 @@
 -- The classic capture of the packets of a file, and what converting a file does.
-use Rattle.std.specs.Prelude.{◌≡◌, ℕ, ◌*◌, ◌/◌, ◌%◌, ◌≤◌, max, false, List, [], ◌∷◌, ◌++◌, length, map, take, IsTrue, Some, Result, Ok, Err}
+use Rattle.std.specs.Prelude.{◌≡◌, ℕ, ◌*◌, ◌/◌, ◌%◌, ◌≤◌, max, false, List, [], ◌∷◌, ◌++◌, length, map, IsTrue, Some, Result, Ok, Err}
 use Rattle.fab_base.specs.Layout.{spelled_low}
 use Rattle.fab_base.specs.Ending as ending
-use Rattle.fab_base.specs.Ending.{End, WhereSaid}
+use Rattle.fab_base.specs.Ending.{End, WhereSaid, HoldsSome}
 use Rattle.fab_base.specs.Seen.{Seen, SameFiles}
 use Rattle.pcap_file.specs.declared.Budget.{Budget}
 use Rattle.pcap_file.specs.declared.CaptureHead.{CaptureHead}
@@ -72,7 +72,7 @@ pub record Converted (from to : List ℕ) (budget : Budget) (old new : Seen) (co
 -- The output is as it was, or it holds a front of the capture of the packets that the input was found to have.
 pub data IsFront (from to : List ℕ) (budget : Budget) (old new : Seen) : Type 0 where
   Same : new.file to ≡ old.file to → IsFront from to budget old new
-  Front : (bytes : List ℕ) (packets : List NgRecord) (n : ℕ) → old.file from ≡ Some bytes → IsNg packets bytes → Within budget packets bytes → new.file to ≡ Some (take n (classic_bytes packets)) → IsFront from to budget old new
+  Front : (bytes : List ℕ) (packets : List NgRecord) → old.file from ≡ Some bytes → IsNg packets bytes → Within budget packets bytes → HoldsSome new to (classic_bytes packets) → IsFront from to budget old new
 
 -- How a conversion ends. The output is opened only behind the whole input: an error of the input leaves every file.
 abbrev pub Converts : List ℕ → List ℕ → Budget → Seen → Seen → Result ℕ ConvertError → Type 0
