@@ -100,6 +100,14 @@ LeavesPacket c f packets r d fault.Memory = LeftWhole c d f packets
 LeavesPacket c f packets r d (fault.Limit limits.Span) = LeftWhole c d f packets × (¬ IsInSpan c (arrived 0 (packets ++ r ∷ [])))
 LeavesPacket c f packets r d _ = ⊥
 
+-- What a packet that isn't taken leaves of the numbers: how many came on each port, the first window, the greatest time, and how
+-- many frames and entries there were.
+pub record KeepsNumbers (old new : Live) : Type 0 where
+  pub counts : new.counts ≡ old.counts
+  pub first : new.first ≡ old.first
+  pub greatest : new.greatest ≡ old.greatest
+  pub done : new.done ≡ old.done
+
 -- what a fault of the stream ends it by
 abbrev pub fault_of : NgError → LiveFault
 fault_of (errors.Fault at why) = fault.Block at why

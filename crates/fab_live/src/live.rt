@@ -1,5 +1,5 @@
 //! What a forwarder that runs keeps from packet to packet, and the taking of one.
-ghost use Rattle.std.specs.Prelude.{◌≡◌, ◌+◌, ◌-◌, ◌<◌, ◌^◌, ◌++◌, ◌∷◌, [], List, Some, length, max, min, MatchResult, IfOk};
+ghost use Rattle.std.specs.Prelude.{◌≡◌, ◌+◌, ◌-◌, ◌<◌, ◌^◌, ◌++◌, ◌∷◌, [], List, Some, length, max, min, MatchResult, IfOk, OnErr};
 ghost use Rattle.fab_config.specs.Settings.{Settings};
 ghost use Rattle.fab_policy.specs.Journal.{Journal};
 ghost use Rattle.fab_gather.specs.Looks as looks;
@@ -11,7 +11,7 @@ ghost use Rattle.fab_live.specs.Arriving as arriving;
 ghost use Rattle.fab_base.specs.Ending.{Uses, end_by};
 ghost use Rattle.fab_base.specs.Seen.{Nothing};
 ghost use Rattle.fab_live.specs.Files.{slots_of, LiveNames, live_end};
-ghost use Rattle.fab_live.specs.Live.{Running, LeavesPacket};
+ghost use Rattle.fab_live.specs.Live.{Running, LeavesPacket, KeepsNumbers};
 
 use crate::files::write_packet;
 use crate::handling::handle;
@@ -42,7 +42,8 @@ pub struct Live {
 impl Live {
     /// Takes a packet of a stream: handles its frame, and writes its record, its entries and what
     /// these send. Where memory is refused, or the packet's window lies too long after the first,
-    /// nothing is written; the forwarder ends then.
+    /// nothing is written. After an error the forwarder ends: its numbers are those of the packets
+    /// before, its fabric may have handled this one, and its pages may hold some of it.
     pub fn take<R: Threads + Sync, D: Depot>(
         &mut self,
         rt: &R,
@@ -63,6 +64,7 @@ impl Live {
             (λ e. LeavesPacket c (slots_of files.now) packets packet (D.seen depot.new) e) }
         ensures uses { Uses Nothing (LiveNames (D.seen depot.old) (slots_of files.now))
             (end_by live_end result) (D.seen depot.old) (D.seen depot.new) }
+        ensures stays { OnErr result (KeepsNumbers self.old self.new) }
     {
         // Law: what further entries and records change; a run goes on by a window's records.
         laws_of_runs();

@@ -1,6 +1,7 @@
 -- Lines that are written one after another.
 use Rattle.std.proofs.Common.{◌≡◌, ℕ, ◌+◌, List, ◌++◌, drop, Some, sym, ap, ◌∙◌, append_assoc}
 use Rattle.std.specs.Prelude.{slice_get}
+use Rattle.fab_base.specs.Ending.{IsPrefixOf}
 use Rattle.fab_policy.specs.Growing.{clock_after, lines_from}
 use Rattle.fab_policy.specs.Text.{line}
 use Rattle.fab_policy.specs.declared.event.Event.{Event}
@@ -14,3 +15,7 @@ lines_step clock clock' i events e lines lines' all at same is so_far =
     ∙ ap (λ (t : ℕ). lines ++ (line t e ++ lines_from t (drop (i + 1) events))) same
     ∙ ap (λ l. lines ++ lines_from clock l) (sym (drop_next events i e at))
     ∙ so_far
+
+-- what begins so still does with more behind it
+pub longer : (front lines more lines' : List ℕ) → IsPrefixOf front lines → lines' ≡ lines ++ more → IsPrefixOf front lines'
+longer front lines more lines' begun is = (begun.0 ++ more, sym (append_assoc front begun.0 more) ∙ ap (λ l. l ++ more) begun.1 ∙ sym is)

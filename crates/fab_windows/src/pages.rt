@@ -1,6 +1,7 @@
 //! What is still to be written to the files, in buffers that are used again.
 ghost use Rattle.std.specs.Prelude.{◌≡◌, ℕ, ◌+◌, ◌<◌, ◌++◌, length, IfOk, OnOk, OnErr};
 ghost use Rattle.std.specs.List.{All};
+ghost use Rattle.fab_base.specs.Ending.{IsPrefixOf};
 ghost use Rattle.pcap_file.specs.Capture.{head_bytes};
 ghost use Rattle.fab_policy.specs.Growing.{clock_after, lines_from, records_to};
 ghost use Rattle.fab_policy.specs.Text.{head_line};
@@ -59,6 +60,7 @@ impl Pages {
             ++ records_to (q + 1) (sents_of sendings.now)) }
         ensures kept { OnErr result (items_in self.new.records.items
             ≡ items_in self.old.records.items) }
+        ensures front { OnErr result (IsPrefixOf self.old.lines.items self.new.lines.items) }
     {
         write_lines(alloc, clock, &sendings.drained.events, &mut self.lines)?;
         sendings.write_records_at_once(rt, alloc, &mut self.records)?;
@@ -81,7 +83,8 @@ fn write_lines(
     lines: &mut Vec<u8>,
 ) -> Result<(), NoMemory>
     requires { All IsRangedEvent events.now }
-    ensures { OnOk result (lines.new.items ≡ lines.old.items ++ lines_from start events.now) }
+    ensures ok { OnOk result (lines.new.items ≡ lines.old.items ++ lines_from start events.now) }
+    ensures err { OnErr result (IsPrefixOf lines.old.items lines.new.items) }
 {
     let mut clock = start;
     for index in 0..events.len() {

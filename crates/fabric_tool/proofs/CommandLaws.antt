@@ -189,7 +189,7 @@ help_spare old new o h takes = absurd h
 
 done_help : (old new : Seen) (before after : Sunk) (o : Outcome) → status_of o ≡ 0 → Holds Help old new o → (IsTrue before.told → after.written ≡ before.written ++ line_of o) → TextEnded help_text old new before after
 unfolding line_of
-done_help old new before after ends.Help is h printed = record { untouched = (h.1.0, h.0, h.1.2); printed = printed }
+done_help old new before after ends.Help is h printed = record { untouched = h.0; printed = printed }
 done_help old new before after o is h printed = absurd h
 
 help_laws : Laws help_meaning
@@ -216,7 +216,7 @@ version_spare old new o h takes = absurd h
 
 done_version : (old new : Seen) (before after : Sunk) (o : Outcome) → status_of o ≡ 0 → Holds Version old new o → (IsTrue before.told → after.written ≡ before.written ++ line_of o) → TextEnded version_text old new before after
 unfolding line_of
-done_version old new before after ends.Version is h printed = record { untouched = (h.1.0, h.0, h.1.2); printed = printed }
+done_version old new before after ends.Version is h printed = record { untouched = h.0; printed = printed }
 done_version old new before after o is h printed = absurd h
 
 version_laws : Laws version_meaning

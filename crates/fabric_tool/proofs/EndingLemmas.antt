@@ -1,13 +1,8 @@
 -- What follows of an ending, whatever the command.
 use Rattle.std.proofs.Common.{◌⊎◌, inl, inr, IsTrue, refl}
 use Rattle.fab_base.specs.Seen.{Seen, SameFiles}
-use Rattle.fabric_tool.specs.Texts.{IsUntouched}
 use Rattle.fabric_tool.specs.Ending.{Ending, Never, Untouched, Leaves, Unread, LeavesUnread, Unwritten, LeavesUnwritten, Also, EndsBy, KeepsAllBut, ReadRose, WriteRose}
 use Rattle.fabric_tool.specs.Meaning.{Meaning}
-
--- a depot that nothing was asked of
-pub untouched : (d : Seen) → IsUntouched d d
-untouched d = ((λ m. refl), record { slots = λ s. record { input = refl; output = refl; name = refl }; left = λ s is. refl }, ((λ m. refl), λ m. refl))
 
 -- what an ending says of outputs that were written
 abbrev pub Left : Ending → Type 0

@@ -1,7 +1,6 @@
 -- How `--help` and `--version` end.
 use Rattle.std.specs.Prelude.{◌≡◌, ℕ, ◌++◌, IsTrue, List, []}
-use Rattle.fab_base.specs.Ending.{NoFaults}
-use Rattle.fab_base.specs.Seen.{KeepsSlots, SameFiles, Seen}
+use Rattle.fab_base.specs.Seen.{SameFiles, Seen}
 use Rattle.fab_base.specs.Sunk.{Sunk}
 use Rattle.fabric_tool.specs.Ending.{Also, Ending, Never, Untouched}
 use Rattle.fabric_tool.specs.Help.{help_text, version_text}
@@ -9,17 +8,17 @@ use Rattle.fabric_tool.specs.Meaning.{Meaning}
 use Rattle.fabric_tool.specs.declared.outcome.Outcome.{Outcome}
 use Rattle.fabric_tool.specs.declared.outcome.Outcome.TheVariants as ends
 
--- nothing was asked of the depot: no file, no slot, nothing that one has left, and no count of faults has changed
+-- nothing was asked of the depot: all that is seen of it is what it was
 abbrev pub IsUntouched : Seen → Seen → Type 0
-IsUntouched old new = SameFiles old new × KeepsSlots old new × NoFaults old new
+IsUntouched old new = new ≡ old
 
 -- how each ends
 abbrev pub help_ending : Seen → Seen → Outcome → Ending
-help_ending old new ends.Help = Also (KeepsSlots old new) (Untouched (Unit {0}))
+help_ending old new ends.Help = Also (IsUntouched old new) (Untouched (Unit {0}))
 help_ending old new _ = Never
 
 abbrev pub version_ending : Seen → Seen → Outcome → Ending
-version_ending old new ends.Version = Also (KeepsSlots old new) (Untouched (Unit {0}))
+version_ending old new ends.Version = Also (IsUntouched old new) (Untouched (Unit {0}))
 version_ending old new _ = Never
 
 -- Status 0 of a command that prints a text: nothing was asked of the depot, and the text was printed.

@@ -1,7 +1,6 @@
 use Rattle.std.proofs.Common.{Some, None, refl, sym, ◌∙◌, subst}
 use Rattle.fabric_tool.specs.Ends.{HoldsFor}
 use Rattle.fabric_tool.specs.declared.outcome.Outcome.TheVariants as ends
-use Rattle.fabric_tool.proofs.EndingLemmas.{untouched}
 use Rattle.fabric_tool.proofs.FormLemmas.{command_is}
 use Rattle.fabric_tool.proofs.TouchLemmas.{own_of}
 use Rattle.fabric_tool.proofs.tool.outcome_of.Goals as goal
@@ -18,6 +17,6 @@ pub returns-in-None : goal.returns-in-None
 returns-in-None g c =
     let seen = g.D.Depot.seen in
     record {
-      holds = subst (λ k. HoldsFor k (seen c.args.depot.now) (seen c.args.depot.now) ends.Words) (sym (command_is c.args.words.now None (sym c.form_of.ensures ∙ c.in-None.is))) (refl, untouched (seen c.args.depot.now));
+      holds = subst (λ k. HoldsFor k (seen c.args.depot.now) (seen c.args.depot.now) ends.Words) (sym (command_is c.args.words.now None (sym c.form_of.ensures ∙ c.in-None.is))) (refl, refl);
       touches = λ k is. let none = command_is c.args.words.now None (sym c.form_of.ensures ∙ c.in-None.is) in absurd (cc);
     }
