@@ -114,7 +114,7 @@ module _ (to bytes : List ℕ) (out : ℕ) (a b c : Seen) (opens : OpensOut {E =
   wrote_part failed p = record {
     uses = written (Err failed) p;
     whole = λ told. tt;
-    part = λ told. let part = p.part (told_out told) [] (empty told) in inr (take part.0 bytes, subst (λ n. c.file n ≡ Some (take part.0 bytes)) is_out part.1, drop part.0 bytes, take-append-drop part.0 bytes);
+    part = λ told. let part = p.part (told_out told) [] (empty told) in inr (take part.0 bytes, subst (λ n. c.file n ≡ Some (take part.0 bytes)) is_out part.1, (drop part.0 bytes, take-append-drop part.0 bytes));
   }
 
 pub unwritten : (to bytes : List ℕ) (a b : Seen) (failed : Failed) → OpensOut {E = Failed} to a b (Err failed) → WritesFile {T = Unit {0}} {E = Failed} to bytes a b (Err failed)
@@ -181,7 +181,7 @@ module _ (own : Identity) (start : ℕ) (from to : List ℕ) (budget : Budget) (
       front (inl e) told = files.Same (e ∙ same h.uses to)
       front (inr some) told =
           let t = h.taken told in
-          files.Front t.bytes records at.given t.found t.says at.begins (some.0, some.1, some.2.0, some.2.1 ∙ is_file ∙ at.holds)
+          files.Front t.bytes records at.given t.found t.says at.begins (some.0, some.1, (some.2.0, some.2.1 ∙ is_file ∙ at.holds))
 
       pub unwritten_run : (failed : Failed) → WritesFile {T = Unit {0}} {E = Failed} to bytes b c (Err failed) → RunsNode (node_task own start from to budget) a c (Err faults.Write)
       unwritten_run failed w = λ told. front (w.part (told_then told)) told

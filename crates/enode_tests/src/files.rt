@@ -141,11 +141,13 @@ fn captures_that_are_not_taken(rt: HostRuntime) -> Result<(), Fail> {
         at: 2292,
         why: CapWhy::Cut,
     };
-    let few = Budget {
-        bytes: 1_000_000,
-        frames: 2,
-    };
+    let few = Budget { frames: 2, ..AMPLE };
     is_refused(&rt, alloc, &whole, few, RunFault::Limit(LimitKind::Frames))?;
+    let short = Budget {
+        bytes: 2400,
+        ..AMPLE
+    };
+    is_refused(&rt, alloc, &whole, short, RunFault::Limit(LimitKind::Bytes))?;
     whole.truncate(2400);
     is_refused(&rt, alloc, &whole, AMPLE, cut)
 }

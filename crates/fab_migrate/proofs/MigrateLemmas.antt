@@ -124,7 +124,7 @@ module _ (from to : List ℕ) (slot limit : ℕ) (a b c : Seen) (opens : OpensIn
         pub front : (failed : Failed) → PutsAll {T = Unit {0}} {E = Failed} out bytes d e (Err failed) → Migrates from to limit a e (Err (ends.Write failed))
         front failed p = λ told.
             let part = p.part (told_d told) [] (empty told) in
-            Begun v.items w.0 (found told) (within told) w.1 (take part.0 bytes, subst (λ n. e.file n ≡ Some (take part.0 bytes)) is_out part.1, drop part.0 bytes, take-append-drop part.0 bytes ∙ all)
+            Begun v.items w.0 (found told) (within told) w.1 (take part.0 bytes, subst (λ n. e.file n ≡ Some (take part.0 bytes)) is_out part.1, (drop part.0 bytes, take-append-drop part.0 bytes ∙ all))
 
         pub migrated : PutsAll {T = Unit {0}} {E = Failed} out bytes d e (Ok tt) → Migrates from to limit a e (Ok n.entries)
         migrated p = λ told.

@@ -92,7 +92,7 @@ fn gathered(
     first: &[u8],
     second: &[u8],
     fetches: u64,
-    frames: u64,
+    limits: (u64, u64),
 ) -> Result<Result<Vec<Come>, GatherFault>, Fail> {
     let config = settings(alloc);
     let mut depot = OpenFiles {
@@ -102,8 +102,8 @@ fn gathered(
         fetches: 8,
     };
     let mut budget = Budget {
-        bytes: 1_000_000,
-        frames,
+        bytes: limits.0,
+        frames: limits.1,
     };
     let one = Reader::open(&mut depot, 0, &mut budget)?;
     let two = Reader::open(&mut depot, 1, &mut budget)?;
@@ -116,7 +116,7 @@ fn windows_ascend_and_then_ports(rt: HostRuntime) -> Result<(), Fail> {
     let alloc = rt.alloc();
     let first = capture(alloc, &[5, 105, 130])?;
     let second = capture(alloc, &[150, 350])?;
-    let come = gathered(alloc, &first, &second, 1000, 5)?
+    let come = gathered(alloc, &first, &second, 1000, (1000, 5))?
         .ok()
         .ok_or("stopped")?;
     let wanted = [
@@ -136,15 +136,17 @@ fn the_first_stop_ends_all(rt: HostRuntime) -> Result<(), Fail> {
     let first = capture(alloc, &[5, 105, 130])?;
     let second = capture(alloc, &[50, 350])?;
     let cut = &second[..second.len().saturating_sub(1)];
-    let early = gathered(alloc, &first, cut, 1000, 5)?.err();
+    let early = gathered(alloc, &first, cut, 1000, (1000, 5))?.err();
     let stop = GatherFault::Capture {
         port: PortNo::at(1),
         at: 41,
         why: CapWhy::Cut,
     };
     assert_eq!(rt; early, Some(stop));
-    let few = gathered(alloc, &first, &second, 1000, 4)?.err();
+    let few = gathered(alloc, &first, &second, 1000, (1000, 4))?.err();
     assert_eq!(rt; few, Some(GatherFault::Limit(LimitKind::Frames)));
+    let short = gathered(alloc, &first, &second, 1000, (100, 5))?.err();
+    assert_eq!(rt; short, Some(GatherFault::Limit(LimitKind::Bytes)));
     Ok(())
 }
 
@@ -154,7 +156,7 @@ fn each_fetch_fails_in_turn(rt: HostRuntime) -> Result<(), Fail> {
     let first = capture(alloc, &[5, 105, 130])?;
     let second = capture(alloc, &[50, 350])?;
     for fetches in 0..40 {
-        match gathered(alloc, &first, &second, fetches, 5)? {
+        match gathered(alloc, &first, &second, fetches, (1000, 5))? {
             Ok(come) => {
                 assert!(rt; fetches > 10);
                 assert_eq!(rt; come.len(), 5);

@@ -36,7 +36,7 @@ use Rattle.fabric_tool.proofs.ConfigLemmas.{same_text}
 whole_sent : (k : EnodeNames) (old new : Seen) (last : Phase) → HasPlayed k old new last → HasEnodeFront k old new
 whole_sent k old new last p =
     let whole = capture (all_sent k.own k.start p.inputs) in
-    Front p.bytes p.records p.inputs p.found p.taken p.run (whole, p.output, [], append-nil whole)
+    Front p.bytes p.records p.inputs p.found p.taken p.run (whole, p.output, ([], append-nil whole))
 
 enode_front : (k : EnodeNames) (old new : Seen) (o : Outcome) → Left (enode_ending k old new o) → HasEnodeFront k old new
 enode_front k old new (ends.Stood last) h = whole_sent k old new last h

@@ -32,7 +32,7 @@ use Rattle.fabric_tool.proofs.Laws.{Laws, alike}
 
 -- the whole capture is a front of it
 whole_front : (k : PairNames) (old new : Seen) (records : ℕ) → Converted k.from k.to LIMITS old new records → IsFront k.from k.to LIMITS old new
-whole_front k old new records c = Front c.bytes c.packets c.found c.is c.within (classic_bytes c.packets, c.output, [], append-nil (classic_bytes c.packets))
+whole_front k old new records c = Front c.bytes c.packets c.found c.is c.within (classic_bytes c.packets, c.output, ([], append-nil (classic_bytes c.packets)))
 
 converted : (k : PairNames) (old new : Seen) (o : Outcome) → Left (convert_ending k old new o) → IsFront k.from k.to LIMITS old new
 converted k old new (ends.Converted records) h = whole_front k old new records h
@@ -92,7 +92,7 @@ convert_laws k = record {
 
 -- the whole journal is a front of it
 whole_journal : (k : PairNames) (old new : Seen) (entries : ℕ) → Migrated k.from k.to MOST_BYTES old new entries → IsNewFront k.from k.to MOST_BYTES old new
-whole_journal k old new entries m = Begun m.bytes m.lines m.found m.within m.is (new_text m.lines, m.output, [], append-nil (new_text m.lines))
+whole_journal k old new entries m = Begun m.bytes m.lines m.found m.within m.is (new_text m.lines, m.output, ([], append-nil (new_text m.lines)))
 
 migrated : (k : PairNames) (old new : Seen) (o : Outcome) → Left (migrate_ending k old new o) → IsNewFront k.from k.to MOST_BYTES old new
 migrated k old new (ends.Migrated entries) h = whole_journal k old new entries h

@@ -100,7 +100,7 @@ module _ (from to : List ℕ) (slot : ℕ) (budget left : Budget) (a b c : Seen)
       front failed made p = λ told.
           let part = p.part (told_stays to c d o.keeps (told_c told)) [] (ap d.file is_out ∙ o.emptied (told_c told)) in
           Front (b.left slot) v (opens.left told) (read told).file ((read told).bytes, (read told).frames)
-          (take part.0 bytes, subst (λ n. e.file n ≡ Some (take part.0 bytes)) is_out part.1, drop part.0 bytes, take-append-drop part.0 bytes ∙ made)
+          (take part.0 bytes, subst (λ n. e.file n ≡ Some (take part.0 bytes)) is_out part.1, (drop part.0 bytes, take-append-drop part.0 bytes ∙ made))
 
       pub output_uses : (x : Result (Unit {0}) Failed) → PutsAll {T = Unit {0}} {E = Failed} out bytes d e x → Uses (Only from) (Only to) (end_by (λ f. Write) x) a e
       output_uses x p =

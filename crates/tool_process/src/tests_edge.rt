@@ -3,10 +3,12 @@ use crate::edge::FileDepot;
 use crate::process::{status_of_process, words_of};
 use crate::same::Spot;
 use fab_base::{Depot, MemSink, word_at};
+use fabric_tool::Outcome;
 use std::alloc::{AllocError, AllocGlobal, Global};
 use std::os::unix::fs::symlink;
 use std::process::Abort;
-use std::rt::Files;
+use std::env::FillError;
+use std::rt::{Env, Files};
 use std::sync::Wait;
 use std::test::Fail;
 use std::thread::Threads;
@@ -102,10 +104,45 @@ fn statuses_of_a_process(rt: HostRuntime) -> Result<(), Fail> {
     Ok(())
 }
 
-// The words of a test's own process can be read.
+// A process that was started with these words.
+#[derive(Drop)]
+struct Started<'a> {
+    words: [&'a [u8]; 3],
+}
+
+impl Env for Started<'_> {
+    fn arg(&self, i: usize, buf: &mut [u8]) -> Result<usize, FillError> {
+        let Some(word) = self.words.get(i) else {
+            return Err(FillError::NotPresent);
+        };
+        let Some(room) = buf.get_mut(..word.len()) else {
+            return Err(FillError::TooLong);
+        };
+        room.copy_from_slice(word);
+        Ok(word.len())
+    }
+
+    fn var(&self, _name: &str, _buf: &mut [u8]) -> Result<usize, FillError> {
+        Err(FillError::NotPresent)
+    }
+
+    fn var_at(&self, _i: usize, _buf: &mut [u8]) -> Result<usize, FillError> {
+        Err(FillError::NotPresent)
+    }
+}
+
+// A word that isn't UTF-8 is no word of a command.
 #[test]
 fn words_of_a_process(rt: HostRuntime) -> Result<(), Fail> {
-    assert!(rt; words_of(&rt).is_ok());
+    let started = Started {
+        words: [b"fcoe_tool", b"run", b"K"],
+    };
+    assert!(rt; words_of(&(started, rt.alloc())).is_ok());
+    let faulty = Started {
+        words: [b"fcoe_tool", b"run", b"\xff"],
+    };
+    let words = words_of(&(faulty, rt.alloc()));
+    assert!(rt; matches!(words, Err(Outcome::Words)));
     Ok(())
 }
 
