@@ -35,7 +35,7 @@ const MOST_PLACES: u32 = 4000;
 
 const MOST_ACTIVATIONS: usize = 64;
 
-/// The last moment of an activation, which is the last millisecond that a capture can name.
+/// The last moment of an activation, which is the last millisecond that a capture can have.
 pub const LAST_MOMENT: u64 = 4294967295999;
 
 /// A zone or a zone set: a name, and numbers under it.

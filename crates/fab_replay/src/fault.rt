@@ -10,7 +10,7 @@ pub enum LineWhy {
     Text,
     /// A tick was expected and it isn't that tick, or it is a tick and none was expected.
     Tick,
-    /// It doesn't name the next frame of a port, in its window.
+    /// It isn't of the next frame of a port, in its window.
     Frame,
     /// No forwarder gives this verdict here; one that it may give is `made`.
     Verdict { found: Verdict, made: Verdict },

@@ -6,7 +6,7 @@ ghost use Rattle.fabric_tool.specs.Command as spec;
 use fab_base::Moment;
 use fab_config::LAST_MOMENT;
 
-/// The moment that a word spells as a number, no later than a capture can name.
+/// The moment that a word spells as a number, no later than a capture can have.
 pub(crate) fn start_of(word: &str) -> Option<Moment>
     ensures { result ≡ spec.start_of word.now }
 {

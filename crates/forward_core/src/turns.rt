@@ -107,7 +107,7 @@ impl Fabric {
         Ok(())
     }
 
-    // A query of a live N_Port gets its answer, in frames of the receive size that it named.
+    // A query of a live N_Port gets its answer, in frames of the receive size that it gave.
     pub(crate) fn answer(
         &mut self,
         alloc: Global,

@@ -19,7 +19,7 @@ pub const RECORD_HEAD: usize = 16;
 /// The most bytes of a record.
 pub const MOST_STORED: u32 = 65535;
 
-/// The last second that a record can name. A later moment has the rest in its fraction.
+/// The last second that a record can have. A later moment has the rest in its fraction.
 pub const LAST_SECOND: u64 = 4_294_967_295;
 
 impl CaptureHead {
