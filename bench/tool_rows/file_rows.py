@@ -93,6 +93,24 @@ def shows(book: Book) -> None:
     book.run(REPLAY, "legal 2\n", 0)
 
 
+def refusals(book: Book) -> None:
+    book.title("replay and show: the configuration comes first, then the captures, and the limits")
+    unlike = book.file("journal-3", b"journal 3\n")
+    for words in (REPLAY, SHOW):
+        for config, line in ((b"", "1 missing"), (b"fcf-mac 00:05:1e:00:00:02\nvlan 5000\n", "2 value")):
+            book.case("faulty_configuration_beside_a_journal", f"{words[0]}: no line of the journal is right, and the capture has no head")
+            book.given(K=config, IN="empty", JOURNAL=unlike, OUT="before")
+            book.run(words, f"config {line}\n", 1)
+            book.see(JOURNAL=b"journal 3\n", OUT=b"before")
+        book.case("span_limit_beside_a_journal", f"{words[0]}: the journal and the output are those of the windows before it")
+        checked(book, "vlans", one="late")
+        book.run(words, "limit span 21600000\n", 6)
+    for length, line in ((23, "0 short"), (99, "24 cut")):
+        book.case("captures_that_stop", f"show of a capture of {length} bytes")
+        checked(book, "vlans", one=f"request-{length}", output="empty")
+        book.run(SHOW, f"capture 1 {line}\n", 1)
+
+
 # A section header, an interface at 28, and at 48 what a packet has before its 60 bytes, in microseconds; in both byte orders.
 def pcapng(order: str, interface: int = 0) -> bytes:
     section = struct.pack(order + "IIIHHq", 0x0A0D0D0A, 28, 0x1A2B3C4D, 1, 0, -1) + struct.pack(order + "I", 28)
@@ -253,5 +271,5 @@ def texts(book: Book) -> None:
 
 
 def all_rows(book: Book) -> None:
-    for part in (replays, shows, converts, migrates, makes, texts):
+    for part in (replays, shows, refusals, converts, migrates, makes, texts):
         part(book)

@@ -114,6 +114,12 @@ def calls(book: Book) -> None:
     _fails(book, "a_call_of_enode_fails", 3 * [3] + 2 * [4], lambda: book.given(IN="head"), ENODE, "asking\n", {"OUT": REQUEST})
     _fails(book, "a_call_of_show_fails", 9 * [3], lambda: checked(book, "vlans"), SHOW, "entries 2\nclock 1000\n", {})
     _fails(book, "a_call_of_replay_fails", 12 * [3], lambda: checked(book, "vlans"), REPLAY, "legal 2\n", {})
+    for journal, line in ((b"journal 2\n1100 tick\n1100 1 0 vlans\n", "2 tick"), (b"journal 2\n1000 tick\n1000 1 0 alive\n", "3 verdict")):
+        for call in (10, 11):
+            book.case("wrong_line_before_a_failing_output", f"call {call} would be a fetch of OUT, and the window's lines come before it")
+            checked(book, journal)
+            book.fail(call)
+            book.run(REPLAY, f"journal {line}\n", 1)
     _fails(book, "a_call_fails", 3 * [3] + 2 * [4], lambda: book.given(IN="pcapng-little"), ["convert", "IN", "OUT"], "records 1\n", {"OUT": REQUEST})
     new = book.shelf["pool-journal"]
     _fails(book, "a_call_of_migrate_fails", 3 * [3] + 2 * [4], lambda: book.given(IN="pool-journal-1"), ["migrate", "IN", "OUT"], "migrated 13\n", {"OUT": new})
@@ -185,6 +191,8 @@ def limits(book: Book) -> None:
     inputs(book, one=book.file("most", HEAD + MOST * record(1, 0, b""), [" < head", f" * {MOST} {nothing}"]), two="request")
     book.run(TWO_PORTS, "limit frames 4000000\n", 6)
     book.see(J=b"journal 2\n", OUT=HEAD, OUT2=HEAD)
+    book.run(["replay"] + TWO_PORTS[1:], "limit frames 4000000\n", 6)
+    book.run("show K J IN IN2".split(), "limit frames 4000000\n", 6)
     book.file("many", b"", [])
     book.file("most", b"", [])
 
