@@ -193,6 +193,8 @@ def limits(book: Book) -> None:
     book.see(J=b"journal 2\n", OUT=HEAD, OUT2=HEAD)
     book.run(["replay"] + TWO_PORTS[1:], "limit frames 4000000\n", 6)
     book.run("show K J IN IN2".split(), "limit frames 4000000\n", 6)
+    book.run("snoop K IN OUT IN2 OUT2".split(), "limit frames 4000000\n", 6)
+    book.see(OUT=HEAD, OUT2=HEAD)
     book.file("many", b"", [])
     book.file("most", b"", [])
 

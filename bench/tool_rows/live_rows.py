@@ -201,6 +201,9 @@ def limits(book: Book) -> None:
         book.run(ONE, line, status)
         book.sum(J=journal, I=HEAD + FRAMES * record(1, 0, b""))
         book.see(O=HEAD)
+        if more:
+            book.run("convert S O".split(), line, status)
+            book.see(O=HEAD)
     book.file("most-packets", b"", [])
 
 
