@@ -6,6 +6,8 @@ mod gate;
 #[cfg(test)]
 mod inputs;
 #[cfg(test)]
+mod limits;
+#[cfg(test)]
 mod quiet;
 #[cfg(test)]
 mod stores;
