@@ -20,3 +20,9 @@ run_end (fault.Limit kind) = ending.Said
 run_end fault.Read = ending.Read
 run_end fault.Write = ending.Write
 run_end fault.Memory = ending.Memory
+
+-- a fault of writing, or want of memory
+abbrev pub IsUnwritten : End → Type 0
+IsUnwritten ending.Write = Unit {0}
+IsUnwritten ending.Memory = Unit {0}
+IsUnwritten end = ⊥

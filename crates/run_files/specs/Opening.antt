@@ -1,6 +1,7 @@
 -- What opening several outputs does.
-use Rattle.std.specs.Prelude.{◌≡◌, ◌≢◌, ℕ, ◌⊎◌, IsTrue, List, [], ◌∷◌, ◌++◌, Some}
-use Rattle.fab_base.specs.Seen.{Seen, Rose, Touches, SameReadFaults}
+use Rattle.std.specs.Prelude.{◌≡◌, ◌≢◌, ℕ, ◌⊎◌, IsTrue, List, [], ◌∷◌, ◌++◌, Some, Result, IfOk, OnOk, OnErr}
+use Rattle.fab_base.specs.Seen.{Seen, Rose, Touches, SameReadFaults, SameWriteFaults}
+use Rattle.fab_base.specs.declared.values.Failed.{Failed}
 use Rattle.run_files.specs.Names.{Among}
 
 -- slots that are open outputs of these names, whose files are empty
@@ -27,3 +28,10 @@ pub record OpenedUpTo (names : List (List ℕ)) (old new : Seen) : Type 0 where
   pub empty : IsTrue old.told → (m : List ℕ) → Among before m → new.file m ≡ Some []
   pub rose : Rose (old.write_faults name) (new.write_faults name)
   pub others : (m : List ℕ) → m ≢ name → new.write_faults m ≡ old.write_faults m
+
+-- Outputs of these names, opened in their order up to the first that couldn't be; these are the slots of what was opened.
+pub record AllOpened {T : Type 0} (slots_of : T → List ℕ) (names : List (List ℕ)) (old new : Seen) (result : Result T Failed) : Type 0 where
+  pub opens : Opens names old new
+  pub slots : IfOk result (λ o. AreEmptyOutputs new names (slots_of o))
+  pub cause : OnErr result (OpenedUpTo names old new)
+  pub counts : OnOk result (SameWriteFaults old new)

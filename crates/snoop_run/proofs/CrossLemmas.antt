@@ -155,7 +155,7 @@ module _ (w : Forwarder) (ins : List (List Record)) (outs : List ℕ) (a d : See
         (f.0, f.1, front_of w (q + 1) c.done (arrivals (left_in ins b.places.items)) (arrivals ins) f.0 (piece_at (items_in b.pages.items) q) came f.2);
     passed_ = tt;
     dropped_ = tt;
-    cause = inl refl;
+    cause = tt;
   }
 
   module _ (d' : Seen) (b' : Bridge) where
@@ -224,7 +224,7 @@ module _ (w : Forwarder) (ins : List (List Record)) (outs : List ℕ) (a d : See
           );
       passed_ = tt;
       dropped_ = tt;
-      cause = inr refl;
+      cause = tt;
     }
 
     pub crosses_full : (e : Failed) → WritesFull outs b b' d d' (Err e) → Crosses w ins outs a d' (Err faults.Write)

@@ -1,5 +1,5 @@
 -- The loops over the ports: the captures that are read, and the outputs that are opened.
-use Rattle.std.proofs.Common.{◌≡◌, ℕ, ◌+◌, ◌-◌, ◌<◌, List, [], ◌∷◌, ◌++◌, length, Ok, Err, sym, ap, ◌∙◌, subst}
+use Rattle.std.proofs.Common.{◌≡◌, ℕ, ◌+◌, ◌-◌, ◌<◌, List, [], ◌∷◌, ◌++◌, length, Ok, Err, sym, ap, subst}
 use Rattle.std.specs.Prelude.{String, Result, map}
 use Rattle.std.specs.declared.alloc.Global.{Global}
 use Rattle.fab_base.specs.Seen.{Seen, OpensOut}
@@ -14,7 +14,7 @@ use Rattle.snoop_run.specs.Sides.{side_count, input_at, output_at, ins_of, outs_
 use Rattle.snoop_run.proofs.InputLemmas.{InputsSoFar, inputs_more, inputs_failed, inputs_no_room}
 use Rattle.snoop_run.proofs.NameLemmas.{new_output}
 use Rattle.run_files.proofs.NameLemmas.{split_names, push_name, length-counted}
-use Rattle.run_files.proofs.OpenLemmas.{OpenedSoFar, opened_more, opened_failed, outputs_count}
+use Rattle.run_files.proofs.OpenLemmas.{OpenedSoFar, opened_more, opened_failed, slots_count}
 
 -- what was read of a word and of a number
 pub read_as : {q p : ℕ} {m n : List ℕ} {a b : Seen} {had left : Budget} {r : Result (List Record) GatherFault} → q ≡ p → m ≡ n → ReadsInput q m a b had left r → ReadsInput p n a b had left r
@@ -63,4 +63,4 @@ module _ (sides : List (String Global)) (p : ℕ) (lt : p < side_count sides) (a
         record { opens = failed.0; slots = tt; cause = failed.1; counts = tt }
 
     pub opened_count : length slots ≡ p
-    opened_count = outputs_count b (before (output_at sides)) slots h.are ∙ length-counted (output_at sides) 0 p
+    opened_count = slots_count b (output_at sides) p slots h.are

@@ -22,7 +22,7 @@ use Rattle.fip_snoop.specs.Messages.{forwarder_of}
 use Rattle.fip_snoop.specs.declared.forwarder.Forwarder.{Forwarder}
 use Rattle.snoop_run.specs.Copies.{capture}
 use Rattle.snoop_run.specs.Bridged.{AreOldOrFront, HasFronts, HasStop, Ends, Bridges, OverEnds, RunsOver}
-use Rattle.run_files.specs.Faults.{fault_from, run_end}
+use Rattle.run_files.specs.Faults.{fault_from, run_end, IsUnwritten}
 use Rattle.run_files.proofs.FaultLemmas.{same_end}
 use Rattle.run_files.specs.Names.{Among}
 use Rattle.run_files.specs.declared.fault.RunFault.{RunFault}
@@ -156,13 +156,14 @@ module _ (sides : List (String Global)) (ins : List (List Record)) (c : Settings
 
     pub over_crossed : (r : Result Crossed RunFault) → is_too_long came ≡ false → Crosses (forwarder_of c) ins slots.items b d r → RunsOver outs ins c a d r
     over_crossed (Ok done) short x = record { ends = (short, whole_on done x, x.passed_, x.dropped_); uses = uses_on x }
-    over_crossed (Err e) short x = record {
-      ends = elim x.cause [
-        | inl memory ↦ subst (λ f. OverEnds outs ins c a d (Err f)) (sym memory) (short, inr (fronts_on x))
-        | inr write ↦ subst (λ f. OverEnds outs ins c a d (Err f)) (sym write) (short, fronts_on x)
-      ];
-      uses = uses_on x;
-    }
+    over_crossed (Err e) short x = record { ends = unwritten e x.cause; uses = uses_on x }
+      where
+        unwritten : (f : RunFault) → IsUnwritten (run_end f) → OverEnds outs ins c a d (Err f)
+        unwritten (faults.Capture port at why) u = absurd u
+        unwritten (faults.Limit kind) u = absurd u
+        unwritten faults.Read u = absurd u
+        unwritten faults.Write u = (short, fronts_on x)
+        unwritten faults.Memory u = (short, inr (fronts_on x))
 
 -- a new bridge is one of its own forwarder
 pub own_new : (w : Forwarder) (n : ℕ) (b : Bridge) → IsNew w n b → IsNew b.snoop.forwarder n b

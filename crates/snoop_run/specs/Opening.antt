@@ -1,9 +1,9 @@
 -- What reading the inputs and opening the outputs does.
-use Rattle.std.specs.Prelude.{◌≡◌, ℕ, ◌+◌, ◌≤◌, IsTrue, List, [], ◌∷◌, ◌++◌, length, map, Option, Result, Ok, Err, IfOk, IfErr, OnOk, OnErr, Vec}
+use Rattle.std.specs.Prelude.{◌≡◌, ℕ, ◌+◌, ◌≤◌, IsTrue, List, [], ◌∷◌, ◌++◌, length, map, Option, Result, Ok, Err, IfOk, IfErr, Vec}
 use Rattle.std.specs.declared.alloc.Global.{Global}
 use Rattle.arrayvec.specs.ArrayVec.{ArrayVec}
 use Rattle.fab_base.specs.Ending.{end_by, Uses}
-use Rattle.fab_base.specs.Seen.{Seen, SameWriteFaults, Nothing, Only}
+use Rattle.fab_base.specs.Seen.{Seen, Nothing, Only}
 use Rattle.fab_base.specs.declared.values.Failed.{Failed}
 use Rattle.pcap_file.specs.declared.Budget.{Budget}
 use Rattle.pcap_file.specs.declared.Record.{Record}
@@ -14,7 +14,7 @@ use Rattle.pcap_file.specs.declared.fault.GatherFault.TheVariants as gather
 use Rattle.pcap_file.specs.Captures.{AreFit, unless_stopped, captures_by}
 use Rattle.fip_snoop.specs.Queue.{AllAscend}
 use Rattle.run_files.specs.Names.{Among}
-use Rattle.run_files.specs.Opening.{AreEmptyOutputs, OpenedUpTo, Opens}
+use Rattle.run_files.specs.Opening.{AllOpened}
 use Rattle.snoop_run.specs.Crossing.{IsFirstUnread}
 use Rattle.snoop_run.specs.Records.{AllFit, count_in}
 
@@ -51,8 +51,5 @@ pub record ReadsInputs (names : List (List ℕ)) (a b : Seen) (budget : Budget) 
 -- ---- outputs
 
 -- Outputs were opened in this order, up to the first that couldn't be.
-pub record OpensOutputs (names : List (List ℕ)) (a b : Seen) (result : Result (ArrayVec ℕ) Failed) : Type 0 where
-  pub opens : Opens names a b
-  pub slots : IfOk result (λ slots. AreEmptyOutputs b names slots.items)
-  pub cause : OnErr result (OpenedUpTo names a b)
-  pub counts : OnOk result (SameWriteFaults a b)
+abbrev pub OpensOutputs : List (List ℕ) → Seen → Seen → Result (ArrayVec ℕ) Failed → Type 0
+OpensOutputs = AllOpened {T = ArrayVec ℕ} (λ slots. slots.items)

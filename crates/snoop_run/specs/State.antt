@@ -11,11 +11,10 @@ use Rattle.fip_snoop.specs.History.{History}
 use Rattle.fip_snoop.specs.Queue.{least, left_in}
 use Rattle.fip_snoop.specs.Snoop.{Remembers}
 use Rattle.fip_snoop.specs.declared.forwarder.Forwarder.{Forwarder}
-use Rattle.run_files.specs.Faults.{run_end}
+use Rattle.run_files.specs.Faults.{run_end, IsUnwritten}
 use Rattle.run_files.specs.Outputs.{PutsEach}
 use Rattle.run_files.specs.Pages.{items_in, piece_at}
 use Rattle.run_files.specs.declared.fault.RunFault.{RunFault}
-use Rattle.run_files.specs.declared.fault.RunFault.TheVariants as faults
 use Rattle.snoop_run.specs.Copies.{records_to, capture}
 use Rattle.snoop_run.specs.declared.bridge.Bridge.{Bridge}
 use Rattle.snoop_run.specs.declared.run.Crossed.{Crossed}
@@ -87,4 +86,4 @@ pub record Crosses (w : Forwarder) (ins : List (List Record)) (outs : List ℕ) 
   pub front : IsTrue old.told → (q : ℕ) → q < length outs → HoldsSome new (name_of old outs q) (capture w (q + 1) (arrivals ins))
   pub passed_ : IfOk result (λ done. done.passed ≡ passed (history w [] (arrivals ins)))
   pub dropped_ : IfOk result (λ done. done.dropped ≡ dropped (history w [] (arrivals ins)))
-  pub cause : IfErr result (λ e. (e ≡ faults.Memory) ⊎ (e ≡ faults.Write))
+  pub cause : IfErr result (λ e. IsUnwritten (run_end e))
