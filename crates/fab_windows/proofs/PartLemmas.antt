@@ -1,12 +1,12 @@
 -- A part of a window goes on to a run over all of the window.
-use Rattle.std.proofs.Common.{◌≡◌, ℕ, zero, suc, ◌+◌, ◌^◌, ◌<◌, ◌≤◌, ◌%◌, ◌⊎◌, inl, inr, IsTrue, IsSome, IfSome, List, [], ◌∷◌, ◌++◌, length, length-append, map, take, drop, Option, Some, refl, sym, ap, ◌∙◌, subst, arith}
+use Rattle.std.proofs.Common.{◌≡◌, ℕ, zero, suc, ◌+◌, inl, inr, IsTrue, IsSome, List, [], ◌∷◌, ◌++◌, length, map, take, drop, Some, refl, sym, ap, ◌∙◌, subst, arith}
 use Rattle.std.proofs.lemmas.List.{append-nil, take-append-drop}
 use Rattle.fab_base.specs.declared.values.Caught.{Caught}
 use Rattle.fab_config.specs.Settings.{Settings, is_in_range}
 use Rattle.pcap_file.specs.declared.Record.{Record}
 use Rattle.fab_policy.specs.Growing.{FollowedByParts, TimedGrows, with_more}
 use Rattle.fab_policy.specs.Journal.{Journal, clock, followed}
-use Rattle.fab_policy.specs.Legal.{Legal, Timed, HasPorts, HoldsFrames, numbered_from, of_port}
+use Rattle.fab_policy.specs.Legal.{Legal, HasPorts, numbered_from, of_port}
 use Rattle.fab_policy.specs.Ranged.{IsRanged}
 use Rattle.fab_policy.specs.Standing.{AreFrames}
 use Rattle.fab_policy.specs.declared.event.Event.{Event}
@@ -15,7 +15,7 @@ use Rattle.fab_onward.specs.Onward.{AreHeld, AreTicks, CanCome, CanComeAll, Fram
 use Rattle.fab_shared.proofs.FollowedLemmas.{of_port-followed, ports-followed, frames-append}
 use Rattle.fab_shared.proofs.FrameLemmas.{numbered-append}
 use Rattle.fab_windows.specs.Files.{GoesOn}
-use Rattle.fab_windows.specs.Parts.{AreTicksOn, HoldFirsts, IsPart, IsNext, PartsGoOn}
+use Rattle.fab_windows.specs.Parts.{AreTicksOn, HoldFirsts, IsPart, IsNext}
 use Rattle.fab_windows.specs.Run.{IsRunOver}
 use Rattle.fab_windows.specs.Window.{AreTicksTo, HoldBatches}
 use Rattle.fab_windows.proofs.WholeLemmas.{run_on}

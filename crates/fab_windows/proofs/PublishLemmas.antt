@@ -1,8 +1,5 @@
 -- A window whose lines and records are added to the pages, and written where these are full.
-use Rattle.std.proofs.Common.{◌≡◌, ℕ, zero, suc, ◌+◌, ◌<◌, false, nat_le, inl, inr, List, [], ◌∷◌, ◌++◌, length, IsTrue, Some, Result, Ok, Err, refl, sym, ap, subst, ◌∙◌, append_assoc, arith, lit<}
-use Rattle.std.specs.Prelude.{Vec, vec_len}
-use Rattle.std.specs.List.{list_any}
-use Rattle.std.specs.declared.alloc.Global.{Global}
+use Rattle.std.proofs.Common.{◌≡◌, ℕ, ◌+◌, ◌<◌, false, inl, inr, List, [], ◌++◌, length, IsTrue, Some, Result, Ok, Err, refl, sym, ap, ◌∙◌, append_assoc}
 use Rattle.std.proofs.lemmas.Bool.{or_parts}
 use Rattle.std.proofs.lemmas.List.{append-nil}
 use Rattle.fab_base.specs.Seen.{Seen, Nothing}
@@ -16,7 +13,7 @@ use Rattle.fab_policy.specs.Text.{text}
 use Rattle.run_files.specs.declared.fault.RunFault.TheVariants as fault
 use Rattle.fab_base.specs.Slots.{name_of}
 use Rattle.fab_windows.specs.Files.{Written, Pending, Hold, HoldBut, InOrder, HoldFronts, Wholes, WholesBut, Fronts, Writes, captures, file_bytes, file_slots}
-use Rattle.run_files.specs.Pages.{items_in, piece_at}
+use Rattle.run_files.specs.Pages.{piece_at}
 use Rattle.run_files.proofs.PageLemmas.{short, short_empty, short_pages, short_nothings}
 use Rattle.fab_windows.specs.Pages.{AreShort, IsNothing, are_full, pending}
 use Rattle.fab_windows.specs.declared.pages.Pages.{Pages}

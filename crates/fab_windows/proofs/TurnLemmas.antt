@@ -18,14 +18,14 @@ use Rattle.pcap_file.specs.declared.fault.GatherFault.TheVariants as gather
 use Rattle.fab_gather.specs.Port.{ending}
 use Rattle.pcap_file.specs.Faults as gathering
 use Rattle.pcap_file.specs.Faults.{gather_end}
-use Rattle.run_files.specs.Faults.{fault_from, run_end}
+use Rattle.run_files.specs.Faults.{fault_from, run_end, IsUnwritten}
 use Rattle.fab_base.proofs.EndingLemmas.{none_then}
 use Rattle.fab_base.specs.Slots.{name_of, NameIn}
 use Rattle.fab_gather.specs.Ports.{slots_of, AreInputs, stop_from, walk_at}
 use Rattle.fab_windows.specs.declared.Done.{Done}
 use Rattle.fab_windows.specs.Files.{AreFiles, Written, Pending, Wholes, WholesBut, Fronts, Writes}
 use Rattle.fab_windows.specs.Run.{Interrupted, Stopped, Ends, SparesFaults}
-use Rattle.fab_windows.specs.Turns.{Laws, Task, captures_in, start_of, Touched, Reached, Ended, IsUnwritten}
+use Rattle.fab_windows.specs.Turns.{Laws, Task, captures_in, start_of, Touched, Reached, Ended}
 use Rattle.fab_gather.specs.Gather.{Gathers}
 use Rattle.fab_gather.proofs.SlotLemmas.{inputs_stay, length-slots, name_in}
 use Rattle.fab_gather.proofs.UsesLemmas.{uses_rose, uses_touches}
@@ -236,18 +236,17 @@ module _ (laws : Laws) (k : Task) (w first : ℕ) (F : Contents) (d : Seen) (ins
     }
 
   -- a window that can't be written: beginnings of its journal
-  pub ended_writing : (z : Seen) (e : RunFault) → Uses Nothing (Written d k.journal k.outs) (run_end e) d z → IsUnwritten e → (IsTrue k.seen.told → Fronts k.settings z k.journal k.outs r.entry_list) → Ended k z e
+  pub ended_writing : (z : Seen) (e : RunFault) → Uses Nothing (Written d k.journal k.outs) (run_end e) d z → IsUnwritten (run_end e) → (IsTrue k.seen.told → Fronts k.settings z k.journal k.outs r.entry_list) → Ended k z e
   ended_writing z e u only front =
-      ended k z e (write_touches z u) (λ told x. absurd (not_both e only x)) (λ told x. absurd (subst IsUnwritten x only))
+      ended k z e (write_touches z u) (λ told x. absurd (not_both (run_end e) only x)) (λ told x. absurd (subst IsUnwritten (ap run_end x) only))
       (λ told x. interrupted_here told (Fronts k.settings z k.journal k.outs) (front told)) (
-        λ x. absurd (subst IsUnwritten x only),
+        λ x. absurd (subst IsUnwritten (ap run_end x) only),
         λ x. let rose = (subst (λ f. Uses Nothing (Written d k.journal k.outs) (run_end f) d z) x u).counts.0 in (rose.0, written_now rose.0 rose.1, rose_later _ _ _ (r.touches.writes_rise rose.0) rose.2),
         writing_spares (Written d k.journal k.outs) (run_end e) k.seen d z r.faults u,
       )
     where
-      not_both : (f : RunFault) → IsUnwritten f → IsSaid (run_end f) → ⊥
-      not_both (fault.Capture port at why) u s = u
-      not_both (fault.Limit kind) u s = u
-      not_both fault.Read u s = u
-      not_both fault.Write u s = s
-      not_both fault.Memory u s = s
+      not_both : (end : End) → IsUnwritten end → IsSaid end → ⊥
+      not_both Said u s = u
+      not_both Read u s = u
+      not_both Write u s = s
+      not_both Memory u s = s

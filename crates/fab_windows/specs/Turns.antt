@@ -18,7 +18,7 @@ use Rattle.fab_messages.specs.declared.message.Out.{Out}
 use Rattle.forward_core.specs.Fabric.{AreRanged}
 use Rattle.fab_gather.specs.declared.shelf.Input.{Input}
 use Rattle.fab_gather.specs.declared.shelf.Shelf.{Shelf}
-use Rattle.run_files.specs.Faults.{run_end}
+use Rattle.run_files.specs.Faults.{run_end, IsUnwritten}
 use Rattle.run_files.specs.declared.fault.RunFault.{RunFault}
 use Rattle.run_files.specs.declared.fault.RunFault.TheVariants as fault
 use Rattle.fab_gather.specs.First.{Start, start_at, opened_in, IsNextWindow}
@@ -146,14 +146,6 @@ pub record Handles (w : ℕ) (shelves : List Shelf) (F E : Contents) (events : L
   pub outs_ : map (sent_of F.settings events) outs ≡ handled.outs
   pub ranged : AreRanged events
 
--- what a fault of writing or want of memory leaves
-abbrev pub IsUnwritten : RunFault → Type 0
-IsUnwritten (fault.Capture port at w) = ⊥
-IsUnwritten (fault.Limit kind) = ⊥
-IsUnwritten fault.Read = ⊥
-IsUnwritten fault.Write = Unit {0}
-IsUnwritten fault.Memory = Unit {0}
-
 -- where writing stands: the store, and what is still to be written
 pub record Paged : Type 0 where
   pub seen : Seen
@@ -175,7 +167,7 @@ pub record Publishes (files : FileSlots) (lines : List ℕ) (sents : List Sent) 
   pub front : IsTrue old.seen.told →
       (w l l' : List ℕ) (v r r' : ℕ → List ℕ) → HoldBut old.pages old.seen files.journal files.outs (file_bytes w v) (file_bytes l r) → l' ≡ l ++ lines
       → ((q : ℕ) → q < length files.outs → r' q ≡ r q ++ records_to (q + 1) sents) → HoldFronts new.seen files.journal files.outs (file_bytes w v) (file_bytes l' r')
-  pub only : IfErr result IsUnwritten
+  pub only : IfErr result (λ e. IsUnwritten (run_end e))
 
 -- What stands once the next window was gathered from where a run had come.
 pub record Gathered (k : Task) (w first : ℕ) (F : Contents) (new : Walk) (done : Done) (p : Pending) : Type 0 where
