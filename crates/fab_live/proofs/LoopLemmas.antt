@@ -15,6 +15,7 @@ use Rattle.pcapng_file.specs.File.{before_all, ng_end, IsPacketKept}
 use Rattle.pcapng_file.proofs.StreamedLemmas.{parts_long, streamed_none, streamed_stays, streamed_more, streamed_end, streamed_stops}
 use Rattle.pcapng_file.specs.Stream.{Streaming, streaming, StreamStand, StreamReads, Streamed, stream_stand}
 use Rattle.fab_policy.specs.Journal.{Journal}
+use Rattle.run_files.specs.Faults.{IsUnwritten}
 use Rattle.run_files.proofs.OutputLemmas.{stays_named, same_name}
 use Rattle.fab_windows.specs.declared.Done.{Done}
 use Rattle.fab_windows.proofs.UsesLemmas.{writing_touches}
@@ -23,7 +24,7 @@ use Rattle.fab_live.specs.declared.live.Live.{Live}
 use Rattle.fab_live.specs.declared.fault.LiveFault.{LiveFault}
 use Rattle.fab_live.specs.declared.fault.LiveFault.TheVariants as fault
 use Rattle.fab_live.specs.Files.{LiveSlots, LiveNames, live_end}
-use Rattle.fab_live.specs.Live.{AreGiven, AreOpen, StartsFiles, Running, HoldLive, LeftWhole, LeftBroken, LeavesPacket, LiveEnds, LiveFinished, LiveRuns, Begins, BeginsWithin, Stops, fault_of, IsUnwritten}
+use Rattle.fab_live.specs.Live.{AreGiven, AreOpen, StartsFiles, Running, HoldLive, LeftWhole, LeftBroken, LeavesPacket, LiveEnds, LiveFinished, LiveRuns, Begins, BeginsWithin, Stops, fault_of}
 use Rattle.fab_live.proofs.RunningLemmas.{left_whole, entries_there}
 use Rattle.fab_live.proofs.WriteLemmas.{moved, in_before, written_before, live_stays}
 
@@ -298,7 +299,7 @@ module _ (c : Settings) (f : LiveSlots) (stream : ℕ) (budget : Budget) (start 
       files = live_stays f Ours' Ours' start d given.files (writing_touches Ours' start d u);
     }
 
-  begun_ends : (e : LiveFault) → IsUnwritten e → LeftBroken c d f [] → IsTrue start.told → LiveEnds c budget f (start.left stream) d (Err e)
+  begun_ends : (e : LiveFault) → IsUnwritten (live_end e) → LeftBroken c d f [] → IsTrue start.told → LiveEnds c budget f (start.left stream) d (Err e)
   begun_ends fault.Write is broken told = ([], (before_all, start.left stream, (zero, (refl, refl, refl))), broken)
   begun_ends fault.Memory is broken told = ([], (before_all, start.left stream, (zero, (refl, refl, refl))), inr (refl, broken))
   begun_ends (fault.Block at why) is broken told = absurd is

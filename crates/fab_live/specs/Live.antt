@@ -15,6 +15,7 @@ use Rattle.fab_policy.specs.Journal.{Journal, frame_count}
 use Rattle.fab_policy.specs.Legal.{window_start}
 use Rattle.fab_policy.specs.Standing.{Contents}
 use Rattle.pcap_file.specs.declared.fault.LimitKind.TheVariants as limits
+use Rattle.run_files.specs.Faults.{IsUnwritten}
 use Rattle.fab_windows.specs.declared.Done.{Done}
 use Rattle.fab_windows.specs.Files.{Hold, Wholes, Fronts, text_so_far, captures_so_far}
 use Rattle.fab_windows.specs.Pages.{IsNothing, pending}
@@ -116,12 +117,6 @@ fault_of (errors.Limit ng_limits.Frames) = fault.Limit limits.Frames
 fault_of (errors.Read failed) = fault.Read
 fault_of errors.Memory = fault.Memory
 
--- a file couldn't be written, or memory was refused
-abbrev pub IsUnwritten : LiveFault → Type 0
-IsUnwritten fault.Write = Unit {0}
-IsUnwritten fault.Memory = Unit {0}
-IsUnwritten _ = ⊥
-
 -- ---- what is handed in
 
 -- an open input and open outputs, all of different names
@@ -207,4 +202,4 @@ pub record StartsFiles {T : Type 0} (f : LiveSlots) (old new : Seen) (result : R
   pub uses : Uses Nothing (LiveNames old f) (end_by live_end result) old new
   pub files : AreLive new f
   pub whole : (c : Settings) → OnOk result (IsTrue new.told → HoldLive c new f [] [])
-  pub broken : (c : Settings) → IfErr result (λ e. IsUnwritten e × LeftBroken c new f [])
+  pub broken : (c : Settings) → IfErr result (λ e. IsUnwritten (live_end e) × LeftBroken c new f [])
