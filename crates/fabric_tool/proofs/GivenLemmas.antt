@@ -1,5 +1,5 @@
 -- What is handed to the windows: inputs whose heads were read, and outputs that are open and empty, all of different names.
-use Rattle.std.proofs.Common.{◌≡◌, ℕ, zero, suc, ◌+◌, ◌*◌, ◌<◌, List, [], ◌∷◌, length, get_or, Some, true, IsTrue, refl, sym, ap, ◌∙◌, subst, arith, inl, inr}
+use Rattle.std.proofs.Common.{◌≡◌, ℕ, zero, suc, ◌+◌, ◌*◌, ◌<◌, List, [], ◌∷◌, length, get_or, true, IsTrue, refl, sym, ap, ◌∙◌, subst, arith, inl, inr}
 use Rattle.std.specs.Prelude.{String}
 use Rattle.std.specs.declared.alloc.Global.{Global}
 use Rattle.fab_base.specs.Seen.{Seen}
@@ -14,6 +14,7 @@ use Rattle.run_files.specs.Names.{Among}
 use Rattle.run_files.specs.Opening.{AreEmptyOutputs}
 use Rattle.fabric_tool.specs.Reading.{AreHeads}
 use Rattle.run_files.proofs.NameLemmas.{counted_among, length-counted}
+use Rattle.run_files.proofs.OpenLemmas.{At, slots_count, there, are_outputs}
 use Rattle.fabric_tool.proofs.HeadLemmas.{heads_count}
 use Rattle.fabric_tool.proofs.NameLemmas.{pairs, one_place, name_counted, inputs_apart}
 
@@ -32,25 +33,6 @@ all_fresh a d [] (i ∷ ins) are = absurd are
 all_fresh a d (n ∷ names) [] are = absurd are
 all_fresh a d (n ∷ names) (i ∷ ins) are = (are.0.fresh, all_fresh a d names ins are.1)
 
--- an output that is open, with its name, and empty
-pub record IsOut (d : Seen) (s : ℕ) (name : List ℕ) : Type 0 where
-  pub output : IsTrue (d.output s)
-  pub named : d.name s ≡ name
-  pub empty : IsTrue d.told → d.file name ≡ Some []
-
-pub output_named : (d : Seen) (names : List (List ℕ)) (slots : List ℕ) (q : ℕ) → q < length slots → AreEmptyOutputs d names slots → IsOut d (slot_at slots q) (get_or names q [])
-output_named d [] [] q lt are = absurd (omega arith)
-output_named d [] (s ∷ slots) q lt are = absurd are
-output_named d (n ∷ names) [] q lt are = absurd are
-output_named d (n ∷ names) (s ∷ slots) zero lt are = record { output = are.0.0; named = are.0.1; empty = are.0.2 }
-output_named d (n ∷ names) (s ∷ slots) (suc q) lt are = output_named d names slots q (omega arith) are.1
-
-pub outputs_count : (d : Seen) (names : List (List ℕ)) (slots : List ℕ) → AreEmptyOutputs d names slots → length slots ≡ length names
-outputs_count d [] [] are = refl
-outputs_count d [] (s ∷ slots) are = absurd are
-outputs_count d (n ∷ names) [] are = absurd are
-outputs_count d (n ∷ names) (s ∷ slots) are = let h = outputs_count d names slots are.1 in omega arith
-
 -- ---- all of them
 
 module _ (words : List (String Global)) (run : are_pairs words ≡ true) (a d : Seen) (ins : List Input) (journal : ℕ) (outs : List ℕ)
@@ -65,13 +47,13 @@ module _ (words : List (String Global)) (run : are_pairs words ≡ true) (a d : 
   ins_count = heads_count a d (run_of words).ins ins heads ∙ length-counted (input_at words) 0 (port_count words)
 
   pub outs_count : length outs ≡ port_count words
-  outs_count = outputs_count d (run_of words).outs outs outputs.1 ∙ length-counted (output_at words) 0 (port_count words)
+  outs_count = slots_count d (output_at words) (port_count words) outs outputs.1
 
   in_name : (q : ℕ) → q < length ins → name_of d (slots_of ins) q ≡ input_at words q
   in_name q lt = (input_named a d (run_of words).ins ins q lt heads).1 ∙ name_counted (input_at words) (port_count words) q (let n = ins_count in omega arith)
 
-  an_output : (q : ℕ) → q < length outs → IsOut d (slot_at outs q) (output_at words q)
-  an_output q lt = subst (IsOut d (slot_at outs q)) (name_counted (output_at words) (port_count words) q (let n = outs_count in omega arith)) (output_named d (run_of words).outs outs q lt outputs.1)
+  an_output : (q : ℕ) → q < length outs → At d (output_at words q) (slot_at outs q)
+  an_output q lt = there d (output_at words) (port_count words) outs outputs.1 q (let n = outs_count in omega arith)
 
   pub slots_length : length (slots_of ins) ≡ length ins
   slots_length = go ins
@@ -86,7 +68,7 @@ module _ (words : List (String Global)) (run : are_pairs words ≡ true) (a d : 
   written_among m (inr at) =
       let n = outs_count in
       let lt = at.1 in
-      inr (subst (Among (run_of words).outs) (sym (at.2 ∙ (an_output at.0 at.1).named)) (counted_among (output_at words) 0 (port_count words) at.0 (omega arith) (omega arith)))
+      inr (subst (Among (run_of words).outs) (sym (at.2 ∙ (an_output at.0 at.1).name_is)) (counted_among (output_at words) 0 (port_count words) at.0 (omega arith) (omega arith)))
 
   pub read_among : (m : List ℕ) → NameIn d (slots_of ins) m → Among (run_of words).ins m
   read_among m at =
@@ -109,20 +91,17 @@ module _ (words : List (String Global)) (run : are_pairs words ≡ true) (a d : 
         };
         files = record {
           journal_ = outputs.0.0;
-          outs_ = record {
-            outputs = λ q lt. (an_output q lt).output;
-            differ = λ p q lp lq same.
-                let place = one_place words (2 * p + 4) (2 * q + 4) run (omega arith) (omega (arith, fits)) (omega arith) (omega (arith, fits)) (sym (an_output p lp).named ∙ same ∙ (an_output q lq).named) in
-                omega arith;
-          };
+          outs_ = are_outputs d (output_at words) (port_count words) outs outputs.1 (λ p q lp lq same.
+              let place = one_place words (2 * p + 4) (2 * q + 4) run (omega arith) (omega (arith, fits)) (omega arith) (omega (arith, fits)) same in
+              omega arith);
           apart = λ q lt same.
-              let place = one_place words (2 * q + 4) 2 run (omega arith) (omega (arith, fits)) (omega arith) (omega (arith, fits)) (sym (an_output q lt).named ∙ same ∙ outputs.0.1) in
+              let place = one_place words (2 * q + 4) 2 run (omega arith) (omega (arith, fits)) (omega arith) (omega (arith, fits)) (sym (an_output q lt).name_is ∙ same ∙ outputs.0.1) in
               absurd (omega arith);
         };
         apart = λ name input output. inputs_apart words run name (read_among name input) (written_among name output);
         fresh = all_fresh a d (run_of words).ins ins heads;
         empty = λ told. (
           ap d.file outputs.0.1 ∙ outputs.0.2 told,
-          λ q lt. ap d.file (an_output q lt).named ∙ (an_output q lt).empty told,
+          λ q lt. ap d.file (an_output q lt).name_is ∙ (an_output q lt).empty told,
         );
       }

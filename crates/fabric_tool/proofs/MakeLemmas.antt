@@ -22,11 +22,10 @@ use Rattle.run_files.specs.Opening.{AreEmptyOutputs, Opens}
 use Rattle.fabric_tool.specs.declared.making.LoadFiles.{LoadFiles}
 use Rattle.fabric_tool.specs.declared.outcome.Outcome.TheVariants as ends
 use Rattle.fabric_tool.proofs.AmongLemmas.{none_among}
-use Rattle.run_files.proofs.NameLemmas.{among_counted, counted_among, rose_among, rose_since, split_names, push_name, length-counted}
-use Rattle.fabric_tool.proofs.GivenLemmas.{IsOut, output_named, outputs_count}
+use Rattle.run_files.proofs.NameLemmas.{among_counted, counted_among, rose_among, rose_since, split_names, push_name}
 use Rattle.fabric_tool.proofs.NameLemmas.{and_true, words_differ, name_counted}
 use Rattle.fabric_tool.proofs.TouchLemmas.{own_then, own_wider, own_written}
-use Rattle.run_files.proofs.OpenLemmas.{OpenedSoFar, opened_more, opened_failed, up_to_rose}
+use Rattle.run_files.proofs.OpenLemmas.{At, OpenedSoFar, opened_more, opened_failed, slots_count, there, up_to_rose}
 
 -- ---- the words
 
@@ -79,7 +78,7 @@ module _ (words : List (String Global)) (make : is_make words ≡ true) (p : ℕ
       record { opens = f.0; slots = tt; cause = f.1; counts = tt }
 
 pub files_count : (words : List (String Global)) (p : ℕ) (a b : Seen) (slots : List ℕ) → OpenedSoFar (map (file_at words) (counting 0 p)) a b slots → length slots ≡ p
-files_count words p a b slots h = outputs_count b (map (file_at words) (counting 0 p)) slots h.are ∙ length-counted (file_at words) 0 p
+files_count words p a b slots h = slots_count b (file_at words) p slots h.are
 
 pub files_opened : (words : List (String Global)) (p : ℕ) (a b : Seen) (files : LoadFiles) → 9 ≤ p → p ≤ 9 → OpenedSoFar (map (file_at words) (counting 0 p)) a b files.slots.items → FilesOpened (files_of words) a b (Ok files)
 files_opened words p a b files le most h =
@@ -91,25 +90,25 @@ files_opened words p a b files le most h =
 
 module _ (words : List (String Global)) (make : is_make words ≡ true) (b : Seen) (slots : List ℕ) (are : AreEmptyOutputs b (files_of words) slots) where
   nine : length slots ≡ 9
-  nine = outputs_count b (files_of words) slots are ∙ length-counted (file_at words) 0 9
+  nine = slots_count b (file_at words) 9 slots are
 
-  a_file : (q : ℕ) → q < 9 → IsOut b (slice_index slots q) (file_at words q)
-  a_file q lt = subst (IsOut b (slice_index slots q)) (name_counted (file_at words) 9 q lt) (output_named b (files_of words) slots q (let n = nine in omega arith) are)
+  a_file : (q : ℕ) → q < 9 → At b (file_at words q) (slice_index slots q)
+  a_file q lt = there b (file_at words) 9 slots are q lt
 
   pub are_nine : AreNine b slots
   are_nine = record {
     count = nine;
     outputs = λ q lt. (a_file q lt).output;
-    differ = λ p q lp lq same. one_file words make p q lp lq (sym (a_file p lp).named ∙ same ∙ (a_file q lq).named);
-    empty = λ told q lt. ap b.file (a_file q lt).named ∙ (a_file q lt).empty told;
+    differ = λ p q lp lq same. one_file words make p q lp lq (sym (a_file p lp).name_is ∙ same ∙ (a_file q lq).name_is);
+    empty = λ told q lt. ap b.file (a_file q lt).name_is ∙ (a_file q lt).empty told;
   }
 
   named_among : (m : List ℕ) → IsNamed b slots m → Among (files_of words) m
-  named_among m named = subst (Among (files_of words)) (sym (named.2 ∙ (a_file named.0 named.1).named)) (counted_among (file_at words) 0 9 named.0 (omega arith) named.1)
+  named_among m named = subst (Among (files_of words)) (sym (named.2 ∙ (a_file named.0 named.1).name_is)) (counted_among (file_at words) 0 9 named.0 (omega arith) named.1)
 
   -- the name of a file by its place
   name_of_file : (number q : ℕ) → q < 9 → b.name (slice_index slots q) ≡ file_name (make_of number words) q
-  name_of_file number q lt = (a_file q lt).named ∙ sym (name_counted (file_at words) 9 q lt)
+  name_of_file number q lt = (a_file q lt).name_is ∙ sym (name_counted (file_at words) 9 q lt)
 
   module _ (number : ℕ) {a d : Seen} (opens : Opens (files_of words) a b) (same : SameWriteFaults a b) {r : Result ℕ MakeFault} (m : Makes number slots b d r) where
     keeps : KeepsOthers (Make (make_of number words)) a d

@@ -1,5 +1,5 @@
 -- The loops over the ports of a command: the heads of the captures, and the outputs that are opened.
-use Rattle.std.proofs.Common.{◌≡◌, ℕ, ◌+◌, ◌-◌, ◌<◌, List, [], ◌∷◌, ◌++◌, length, true, Ok, Err, refl, sym, ap, ◌∙◌, subst}
+use Rattle.std.proofs.Common.{◌≡◌, ℕ, ◌+◌, ◌-◌, ◌<◌, List, [], ◌∷◌, ◌++◌, length, true, Ok, Err, refl, sym, ap, subst}
 use Rattle.std.specs.Prelude.{String, Result, map}
 use Rattle.std.specs.declared.alloc.Global.{Global}
 use Rattle.fab_base.specs.Seen.{Seen, OpensOut}
@@ -13,11 +13,10 @@ use Rattle.fabric_tool.specs.Opening.{OutputsOpened}
 use Rattle.fabric_tool.specs.Reading.{HeadRead, HeadsRead}
 use Rattle.fabric_tool.specs.declared.outcome.Outcome.{Outcome}
 use Rattle.fabric_tool.specs.declared.outcome.Outcome.TheVariants as ends
-use Rattle.fabric_tool.proofs.GivenLemmas.{outputs_count}
 use Rattle.fabric_tool.proofs.HeadLemmas.{HeadsSoFar, heads_more, heads_failed, heads_no_room}
 use Rattle.fabric_tool.proofs.NameLemmas.{new_input, new_output}
 use Rattle.run_files.proofs.NameLemmas.{split_names, push_name, length-counted}
-use Rattle.run_files.proofs.OpenLemmas.{OpenedSoFar, opened_none, opened_more, opened_failed}
+use Rattle.run_files.proofs.OpenLemmas.{OpenedSoFar, opened_none, opened_more, opened_failed, slots_count}
 
 -- the inputs of the ports before this one
 abbrev pub input_names : Width → List (String Global) → ℕ → List (List ℕ)
@@ -80,4 +79,4 @@ journal_failed words a d e o =
 
 -- as many outputs are open as ports are done
 pub opened_count : (words : List (String Global)) (p : ℕ) (a b : Seen) (journal : ℕ) (slots : List ℕ) → OpenedSoFar (output_names words p) a b (journal ∷ slots) → length slots ≡ p
-opened_count words p a b journal slots h = outputs_count b (map (output_at words) (counting 0 p)) slots h.are.1 ∙ length-counted (output_at words) 0 p
+opened_count words p a b journal slots h = slots_count b (output_at words) p slots h.are.1

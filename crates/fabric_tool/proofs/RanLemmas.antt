@@ -42,9 +42,9 @@ use Rattle.fabric_tool.specs.declared.outcome.Outcome.{Outcome}
 use Rattle.fabric_tool.specs.declared.outcome.Outcome.TheVariants as ends
 use Rattle.fabric_tool.proofs.AmongLemmas.{none_among}
 use Rattle.run_files.proofs.NameLemmas.{rose_among, rose_since, length-counted}
-use Rattle.run_files.proofs.OpenLemmas.{up_to_rose}
+use Rattle.run_files.proofs.OpenLemmas.{outputs_count, up_to_rose}
 use Rattle.fabric_tool.proofs.CaptureLemmas.{whole_captures}
-use Rattle.fabric_tool.proofs.GivenLemmas.{outputs_count, written_among, read_among, slots_length, ins_count, outs_count, given}
+use Rattle.fabric_tool.proofs.GivenLemmas.{written_among, read_among, slots_length, ins_count, outs_count, given}
 use Rattle.fabric_tool.proofs.HeadLemmas.{heads_still, heads_since, heads_count, heads_opened}
 use Rattle.fabric_tool.proofs.NameLemmas.{pairs, inputs_apart}
 use Rattle.fabric_tool.proofs.PartLemmas.{empty_part, unwritten}

@@ -1,8 +1,8 @@
 -- What opening the outputs of a command does, and what its work ends it with.
-use Rattle.std.specs.Prelude.{◌≡◌, ℕ, List, length, ◌∷◌, Ok, Err, Result, IfOk, OnOk, OnErr}
-use Rattle.fab_base.specs.Seen.{Seen, SameWriteFaults}
+use Rattle.std.specs.Prelude.{◌≡◌, ℕ, List, length, ◌∷◌, Ok, Err, Result}
+use Rattle.fab_base.specs.Seen.{Seen}
 use Rattle.fab_base.specs.declared.values.Failed.{Failed}
-use Rattle.run_files.specs.Opening.{AreEmptyOutputs, OpenedUpTo, Opens}
+use Rattle.run_files.specs.Opening.{AllOpened}
 use Rattle.run_files.specs.declared.fault.RunFault.{RunFault}
 use Rattle.run_files.specs.declared.fault.RunFault.TheVariants as faults
 use Rattle.fab_windows.specs.declared.Done.{Done}
@@ -16,13 +16,6 @@ use Rattle.fabric_tool.specs.declared.making.LoadFiles.{LoadFiles}
 use Rattle.fabric_tool.specs.declared.outcome.Outcome.{Outcome}
 use Rattle.fabric_tool.specs.declared.outcome.Outcome.TheVariants as ends
 use Rattle.fabric_tool.specs.declared.outputs.Outputs.{Outputs}
-
--- Outputs of these names, opened in their order up to the first that couldn't be; these are the slots of what was opened.
-pub record AllOpened {T : Type 0} (slots_of : T → List ℕ) (names : List (List ℕ)) (old new : Seen) (result : Result T Failed) : Type 0 where
-  pub opens : Opens names old new
-  pub slots : IfOk result (λ o. AreEmptyOutputs new names (slots_of o))
-  pub cause : OnErr result (OpenedUpTo names old new)
-  pub counts : OnOk result (SameWriteFaults old new)
 
 -- the outputs of `run`: the journal, and then those of the ports in their order
 abbrev pub OutputsOpened : RunNames → Seen → Seen → Result Outputs Failed → Type 0
