@@ -1,11 +1,10 @@
 -- A capture: how many frames it has, and how it is put together.
-use Rattle.std.proofs.Common.{◌≡◌, ℕ, zero, suc, ◌+◌, List, [], ◌∷◌, ◌++◌, length, length-append, flat_map, Ok, Err, IsTrue, refl, ap, ◌∙◌, subst, arith}
+use Rattle.std.proofs.Common.{◌≡◌, ℕ, ◌+◌, List, [], ◌∷◌, ◌++◌, length, length-append, flat_map, Ok, Err, IsTrue, refl, ap, ◌∙◌, subst, arith}
 use Rattle.std.specs.Prelude.{Result}
 use Rattle.fab_base.specs.Seen.{Seen}
 use Rattle.pcap_file.specs.Capture.{head_bytes}
 use Rattle.fab_vectors.specs.Files.{AddsTo, Adds}
 use Rattle.fab_vectors.specs.Load.{frames, logins, data_frame, data_frames, record_of, capture}
-use Rattle.fab_vectors.specs.Names.{numbered}
 use Rattle.fab_vectors.specs.declared.MakeFault.{MakeFault}
 use Rattle.fab_vectors.specs.declared.frame.LoadFrame.{LoadFrame}
 use Rattle.fab_vectors.specs.declared.frame.LoadFrame.TheVariants.{VlanRequest, Solicitation, Login, KeepAlive}

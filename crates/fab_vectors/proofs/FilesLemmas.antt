@@ -16,7 +16,7 @@ pub adds_none : {T : Type 0} (t : T) (name : List ℕ) (a : Seen) → AddsTo {T 
 adds_none t name a = record {
   uses = uses_none Nothing (Only name) a;
   whole = λ told had is. is ∙ ap Some (sym (append-nil had));
-  front = λ told had is. ([], [], is ∙ ap Some (sym (append-nil had)), refl);
+  front = λ told had is. ([], is ∙ ap Some (sym (append-nil had)), ([], refl));
 }
 
 -- memory was refused before anything was added
@@ -24,7 +24,7 @@ pub adds_refused : {T : Type 0} (name bytes : List ℕ) (a : Seen) → AddsTo {T
 adds_refused name bytes a = record {
   uses = uses_refused Nothing (Only name) a a (uses_none Nothing (Only name) a);
   whole = λ told had is. tt;
-  front = λ told had is. ([], bytes, is ∙ ap Some (sym (append-nil had)), refl);
+  front = λ told had is. ([], is ∙ ap Some (sym (append-nil had)), (bytes, refl));
 }
 
 -- a put that failed
@@ -32,7 +32,7 @@ pub adds_failed : (s : ℕ) (bytes : List ℕ) (a b : Seen) (e : Failed) → Put
 adds_failed s bytes a b e p = record {
   uses = puts_all_uses a b s bytes (Err e) p;
   whole = λ told had is. tt;
-  front = λ told had is. let part = p.part told had is in (take part.0 bytes, drop part.0 bytes, part.1, take-append-drop part.0 bytes);
+  front = λ told had is. let part = p.part told had is in (take part.0 bytes, part.1, (drop part.0 bytes, take-append-drop part.0 bytes));
 }
 
 -- a failure, of more bytes
@@ -40,7 +40,7 @@ pub adds_more : {T U : Type 0} (name x y : List ℕ) (a b : Seen) (e : MakeFault
 adds_more name x y a b e p = record {
   uses = p.uses;
   whole = λ told had is. tt;
-  front = λ told had is. let f = p.front told had is in (f.0, f.1 ++ y, f.2, sym (append_assoc f.0 f.1 y) ∙ ap (λ l. l ++ y) f.3);
+  front = λ told had is. let f = p.front told had is in (f.0, f.1, (f.2.0 ++ y, sym (append_assoc f.0 f.2.0 y) ∙ ap (λ l. l ++ y) f.2.1));
 }
 
 -- a depot that tells goes on telling
@@ -56,7 +56,7 @@ adds_behind t name x y a b d r p q = record {
       subst (λ l. OnOk r (d.file name ≡ Some l)) (append_assoc had x y) (q.whole (told_later name x a b (Ok t) p told) (had ++ x) (p.whole told had is));
   front = λ told had is.
       let f = q.front (told_later name x a b (Ok t) p told) (had ++ x) (p.whole told had is) in
-      (x ++ f.0, f.1, f.2 ∙ ap Some (append_assoc had x f.0), append_assoc x f.0 f.1 ∙ ap (λ l. x ++ l) f.3);
+      (x ++ f.0, f.1 ∙ ap Some (append_assoc had x f.0), (f.2.0, append_assoc x f.0 f.2.0 ∙ ap (λ l. x ++ l) f.2.1));
 }
 
 -- what an answer says beside is free

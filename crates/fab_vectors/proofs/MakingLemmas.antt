@@ -2,14 +2,14 @@
 use Rattle.std.proofs.Common.{◌≡◌, ◌≢◌, ℕ, zero, suc, ◌+◌, ◌-◌, ◌*◌, ◌^◌, ◌<◌, ◌≤◌, inl, inr, List, [], Some, Ok, Err, IsTrue, refl, sym, ◌∙◌, subst, arith}
 use Rattle.std.specs.Prelude.{Result, slice_index}
 use Rattle.std.proofs.lemmas.List.{append-nil}
-use Rattle.fab_base.specs.Ending.{Said, end_by, Uses}
+use Rattle.fab_base.specs.Ending.{HoldsSome, Said, end_by, Uses}
 use Rattle.fab_base.specs.Seen.{Seen, Nothing, Only}
-use Rattle.fab_base.specs.Slots.{name_of}
+use Rattle.fab_base.specs.Slots.{NameIn, name_of}
 use Rattle.fab_base.proofs.EndingLemmas.{uses_none, uses_refused, uses_then, uses_wider}
 use Rattle.pcap_file.proofs.lemmas.Numbers.{le_or_lt}
-use Rattle.fab_vectors.specs.Files.{AddsTo, Adds, HoldsFront, make_end}
+use Rattle.fab_vectors.specs.Files.{AddsTo, Adds, make_end}
 use Rattle.fab_vectors.specs.Load.{capture}
-use Rattle.fab_vectors.specs.Making.{AreNine, IsNamed, Makes, file_text, frame_count}
+use Rattle.fab_vectors.specs.Making.{AreNine, Makes, file_text, frame_count}
 use Rattle.fab_vectors.specs.declared.MakeFault.{MakeFault}
 use Rattle.fab_vectors.specs.declared.MakeFault.TheVariants as fault
 
@@ -29,22 +29,22 @@ few (suc k) total n lt is n_is = omega arith
 -- memory was refused before anything was written
 pub made_nothing : (number : ℕ) (slots : List ℕ) (a : Seen) → AreNine a slots → Makes number slots a a (Err fault.Memory)
 made_nothing number slots a nine = record {
-  uses = uses_refused Nothing (IsNamed a slots) a a (uses_none Nothing (IsNamed a slots) a);
+  uses = uses_refused Nothing (NameIn a slots) a a (uses_none Nothing (NameIn a slots) a);
   whole = λ told. tt;
-  front = λ told q less. ([], file_text number q, nine.empty told q less, refl);
+  front = λ told q less. ([], nine.empty told q less, (file_text number q, refl));
   count = tt;
 }
 
 -- What stands before the file of a place: those before it are whole, and the others are as they were.
 pub record Made (number : ℕ) (slots : List ℕ) (k total : ℕ) (a b : Seen) : Type 0 where
-  pub uses : Uses Nothing (IsNamed a slots) Said a b
+  pub uses : Uses Nothing (NameIn a slots) Said a b
   pub done : IsTrue a.told → (q : ℕ) → q < k → q < 9 → b.file (name_of a slots q) ≡ Some (file_text number q)
   pub rest : (q : ℕ) → k ≤ q → q < 9 → b.file (name_of a slots q) ≡ a.file (name_of a slots q)
   pub count : total ≡ 2500 * (k - 1)
 
 pub made_none : (number : ℕ) (slots : List ℕ) (a : Seen) → Made number slots 0 0 a a
 made_none number slots a = record {
-  uses = uses_none Nothing (IsNamed a slots) a;
+  uses = uses_none Nothing (NameIn a slots) a;
   done = λ told q lt less. absurd (omega arith);
   rest = λ q le less. refl;
   count = refl;
@@ -54,7 +54,7 @@ pub made_all : (number : ℕ) (slots : List ℕ) (k total : ℕ) (a b : Seen) �
 made_all number slots k total a b nine le most m = record {
   uses = m.uses;
   whole = λ told q less. m.done told q (omega arith) less;
-  front = λ told q less. (file_text number q, [], m.done told q (omega arith) less, append-nil (file_text number q));
+  front = λ told q less. (file_text number q, m.done told q (omega arith) less, ([], append-nil (file_text number q)));
   count = let is = m.count in omega arith;
 }
 
@@ -81,10 +81,10 @@ module _ (number : ℕ) (slots : List ℕ) (k total : ℕ) (a b d : Seen) (nine 
     own : AddsTo {T = ℕ} name (file_text number k) b d r
     own = subst (λ n. AddsTo {T = ℕ} n (file_text number k) b d r) (m.uses.touches.slots s (inr (nine.outputs k lt))).name p
 
-    uses_on : Uses Nothing (IsNamed a slots) (end_by make_end r) a d
+    uses_on : Uses Nothing (NameIn a slots) (end_by make_end r) a d
     uses_on =
-        uses_then Nothing (IsNamed a slots) (end_by make_end r) a b d m.uses
-        (uses_wider Nothing (Only name) Nothing (IsNamed a slots) (λ x none. none) (λ x e. (k, lt, e)) (end_by make_end r) b d own.uses)
+        uses_then Nothing (NameIn a slots) (end_by make_end r) a b d m.uses
+        (uses_wider Nothing (Only name) Nothing (NameIn a slots) (λ x none. none) (λ x e. (k, let count = nine.count in omega arith, e)) (end_by make_end r) b d own.uses)
 
     others : (q : ℕ) → q ≢ k → q < 9 → d.file (name_of a slots q) ≡ b.file (name_of a slots q)
     others q ne less = own.uses.touches.files (name_of a slots q) (differs q less ne)
@@ -112,12 +112,12 @@ module _ (number : ℕ) (slots : List ℕ) (k total : ℕ) (a b d : Seen) (nine 
     whole = λ told. tt;
     front = λ told q less. elim (le_or_lt k q) [
       | inl le ↦ elim (le_or_lt (k + 1) q) [
-        | inl behind ↦ ([], file_text number q, others (Err e) p q (λ e. omega arith) less ∙ m.rest q (omega arith) less ∙ nine.empty told q less, refl)
+        | inl behind ↦ ([], others (Err e) p q (λ e. omega arith) less ∙ m.rest q (omega arith) less ∙ nine.empty told q less, (file_text number q, refl))
         | inr mine ↦
             let same : k ≡ q = omega arith in
-            subst (λ (x : ℕ). HoldsFront d (name_of a slots x) [] (file_text number x)) same ((own (Err e) p).front (told_on told) [] (empty told))
+            subst (λ (x : ℕ). HoldsSome d (name_of a slots x) (file_text number x)) same ((own (Err e) p).front (told_on told) [] (empty told))
       ]
-      | inr more ↦ (file_text number q, [], others (Err e) p q (λ e. omega arith) less ∙ m.done told q more less, append-nil (file_text number q))
+      | inr more ↦ (file_text number q, others (Err e) p q (λ e. omega arith) less ∙ m.done told q more less, ([], append-nil (file_text number q)))
     ];
     count = tt;
   }

@@ -1,14 +1,14 @@
 -- What writing to one file of a load adds to it.
 use Rattle.std.specs.Prelude.{◌≡◌, ℕ, IsTrue, List, ◌++◌, Some, Result, OnOk}
 use Rattle.fab_base.specs.Ending as ending
-use Rattle.fab_base.specs.Ending.{End, end_by, Uses}
+use Rattle.fab_base.specs.Ending.{End, end_by, IsPrefixOf, Uses}
 use Rattle.fab_base.specs.Seen.{Seen, Nothing, Only}
 use Rattle.fab_vectors.specs.declared.MakeFault.{MakeFault}
 use Rattle.fab_vectors.specs.declared.MakeFault.TheVariants as fault
 
 -- a file holds these bytes, and then a beginning of those
 abbrev pub HoldsFront : Seen → List ℕ → List ℕ → List ℕ → Type 0
-HoldsFront d name had bytes = (front rest : List ℕ) × (d.file name ≡ Some (had ++ front)) × (front ++ rest ≡ bytes)
+HoldsFront d name had bytes = (front : List ℕ) × (d.file name ≡ Some (had ++ front)) × IsPrefixOf front bytes
 
 -- what a fault rests on
 abbrev pub make_end : MakeFault → End

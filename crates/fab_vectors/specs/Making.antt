@@ -1,9 +1,9 @@
 -- The nine files of a load: the configuration, and then the captures of ports 1 to 8.
 use Rattle.std.specs.Prelude.{◌≡◌, ℕ, zero, suc, ◌<◌, IsTrue, List, [], length, slice_index, Some, Result, IfOk, OnOk}
-use Rattle.fab_base.specs.Ending.{end_by, Uses}
+use Rattle.fab_base.specs.Ending.{HoldsSome, end_by, Uses}
 use Rattle.fab_base.specs.Seen.{Seen, Nothing}
-use Rattle.fab_base.specs.Slots.{name_of}
-use Rattle.fab_vectors.specs.Files.{HoldsFront, make_end}
+use Rattle.fab_base.specs.Slots.{NameIn, name_of}
+use Rattle.fab_vectors.specs.Files.{make_end}
 use Rattle.fab_vectors.specs.Load.{capture}
 use Rattle.fab_vectors.specs.Settings.{config_text}
 use Rattle.fab_vectors.specs.declared.MakeFault.{MakeFault}
@@ -18,10 +18,6 @@ abbrev pub frame_count : ℕ → ℕ
 frame_count zero = 0
 frame_count (suc q) = 2500
 
--- a name of one of the nine
-abbrev pub IsNamed : Seen → List ℕ → List ℕ → Type 0
-IsNamed d slots m = (q : ℕ) × (q < 9) × (m ≡ name_of d slots q)
-
 -- Nine open outputs of different names, which are empty where the depot tells.
 pub record AreNine (d : Seen) (slots : List ℕ) : Type 0 where
   pub count : length slots ≡ 9
@@ -32,7 +28,7 @@ pub record AreNine (d : Seen) (slots : List ℕ) : Type 0 where
 -- Making a load: each file holds its text, or, where it fails, a beginning of it. No other file changes, and of the faults of the store
 -- exactly that is counted in which it ends, of one of the nine.
 pub record Makes (number : ℕ) (slots : List ℕ) (old new : Seen) (result : Result ℕ MakeFault) : Type 0 where
-  pub uses : Uses Nothing (IsNamed old slots) (end_by make_end result) old new
+  pub uses : Uses Nothing (NameIn old slots) (end_by make_end result) old new
   pub whole : IsTrue old.told → OnOk result ((q : ℕ) → q < 9 → new.file (name_of old slots q) ≡ Some (file_text number q))
-  pub front : IsTrue old.told → (q : ℕ) → q < 9 → HoldsFront new (name_of old slots q) [] (file_text number q)
+  pub front : IsTrue old.told → (q : ℕ) → q < 9 → HoldsSome new (name_of old slots q) (file_text number q)
   pub count : IfOk result (λ frames. frames ≡ 20000)
