@@ -1,14 +1,13 @@
 -- One of several names, and whether the count of one of them rose.
-use Rattle.std.proofs.Common.{◌≡◌, ◌≢◌, ℕ, zero, suc, ◌+◌, ◌-◌, ◌<◌, ◌≤◌, List, [], ◌∷◌, ◌++◌, ◌⊎◌, length, false, inl, inr, refl, ap, ◌∙◌, subst, arith}
+use Rattle.std.proofs.Common.{◌≡◌, ◌≢◌, ℕ, zero, suc, ◌+◌, ◌-◌, ◌<◌, ◌≤◌, List, [], ◌∷◌, ◌++◌, ◌⊎◌, length, false, inl, inr, refl, ap, ◌∙◌, arith}
 use Rattle.std.specs.Prelude.{map}
 use Rattle.std.specs.Str.{bytes_eq}
 use Rattle.std.proofs.lemmas.Slice.Eq.{bytes_eq-Decides}
 use Rattle.fab_base.specs.Ending.{RoseIn}
-use Rattle.fab_base.specs.Seen.{Rose}
 use Rattle.fab_base.proofs.SeenLemmas.{rose_later}
 use Rattle.fab_base.specs.Counting.{counting}
 use Rattle.pcap_file.proofs.lemmas.Numbers.{le_or_lt}
-use Rattle.run_files.specs.Names.{Among, AnyRose}
+use Rattle.run_files.specs.Names.{Among}
 
 pub differs : (m n : List ℕ) → bytes_eq m n ≡ false → m ≢ n
 differs m n other e = let same = (bytes_eq-Decides m n).1 e in absurd (cc)
@@ -76,25 +75,6 @@ length-counted f k (suc n) = let h = length-counted f (k + 1) n in omega arith
 
 -- ---- counts
 
-pub rose_among : (before now : List ℕ → ℕ) (names : List (List ℕ)) (m : List ℕ) → Among names m → Rose (before m) (now m) → AnyRose before now names
-rose_among before now [] m a rose = absurd a
-rose_among before now (n ∷ names) m (inl is) rose = inl (subst (λ x. Rose (before x) (now x)) is rose)
-rose_among before now (n ∷ names) m (inr a) rose = inr (rose_among before now names m a rose)
-
--- and which one rose
-pub among_rose : (before now : List ℕ → ℕ) (names : List (List ℕ)) → AnyRose before now names → RoseIn (Among names) before now
-among_rose before now [] rose = absurd rose
-among_rose before now (n ∷ names) (inl rose) = (n, inl refl, rose)
-among_rose before now (n ∷ names) (inr rose) = let r = among_rose before now names rose in (r.0, inr r.1, r.2)
-
--- counts that didn't fall before
-pub rose_since : (earlier before now : List ℕ → ℕ) → ((m : List ℕ) → earlier m ≤ before m) → (names : List (List ℕ)) → AnyRose before now names → AnyRose earlier now names
-rose_since earlier before now le [] rose = rose
-rose_since earlier before now le (n ∷ names) (inl rose) = inl (rose_later (earlier n) (before n) (now n) (le n) rose)
-rose_since earlier before now le (n ∷ names) (inr rose) = inr (rose_since earlier before now le names rose)
-
--- and don't fall later
-pub rose_until : (earlier now later : List ℕ → ℕ) → ((m : List ℕ) → now m ≤ later m) → (names : List (List ℕ)) → AnyRose earlier now names → AnyRose earlier later names
-rose_until earlier now later le [] rose = rose
-rose_until earlier now later le (n ∷ names) (inl rose) = inl (let h = le n in omega (arith, rose, h))
-rose_until earlier now later le (n ∷ names) (inr rose) = inr (rose_until earlier now later le names rose)
+-- one that rose of counts that didn't fall before
+pub rose_since : (earlier before now : List ℕ → ℕ) → ((m : List ℕ) → earlier m ≤ before m) → (names : List (List ℕ)) → RoseIn (Among names) before now → RoseIn (Among names) earlier now
+rose_since earlier before now le names rose = (rose.0, rose.1, rose_later (earlier rose.0) (before rose.0) (now rose.0) (le rose.0) rose.2)

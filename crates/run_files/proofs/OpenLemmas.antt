@@ -4,15 +4,16 @@ use Rattle.std.specs.Prelude.{map}
 use Rattle.std.specs.Str.{bytes_eq}
 use Rattle.std.proofs.lemmas.Bool.{cases_Bool}
 use Rattle.std.proofs.lemmas.Slice.Eq.{bytes_eq-Decides}
+use Rattle.fab_base.specs.Ending.{RoseIn}
 use Rattle.fab_base.specs.Seen.{Seen, OpensOut, Touches, Only, SameFiles, SameWriteFaults}
 use Rattle.fab_base.specs.declared.values.Failed.{Failed}
 use Rattle.fab_base.proofs.SeenLemmas.{touches_refl, touches_trans, touches_wider, keeps_touches, rose_later}
 use Rattle.fab_base.specs.Counting.{counting}
 use Rattle.fab_base.specs.Slots.{slot_at}
-use Rattle.run_files.specs.Names.{Among, AnyRose}
+use Rattle.run_files.specs.Names.{Among}
 use Rattle.run_files.specs.Opening.{AreEmptyOutputs, Opens, OpenedUpTo}
 use Rattle.run_files.specs.Outputs.{AreOutputs}
-use Rattle.run_files.proofs.NameLemmas.{differs, among_front, among_back, among_all, rose_among, length-counted}
+use Rattle.run_files.proofs.NameLemmas.{differs, among_front, among_back, among_all, length-counted}
 
 -- what stands for the loop when the outputs of these names were opened
 pub record OpenedSoFar (names : List (List ℕ)) (a now : Seen) (slots : List ℕ) : Type 0 where
@@ -135,9 +136,9 @@ module _ (names : List (List ℕ)) (a b : Seen) (slots : List ℕ) (h : OpenedSo
       )
 
 -- where one couldn't be opened the count of one of all rose
-pub up_to_rose : (names : List (List ℕ)) (old new : Seen) → OpenedUpTo names old new → AnyRose old.write_faults new.write_faults names
+pub up_to_rose : (names : List (List ℕ)) (old new : Seen) → OpenedUpTo names old new → RoseIn (Among names) old.write_faults new.write_faults
 up_to_rose names old new o =
-    rose_among old.write_faults new.write_faults names o.name (subst (λ l. Among l o.name) (sym o.are) (among_back o.before (o.name ∷ o.behind) o.name (inl refl))) o.rose
+    (o.name, subst (λ l. Among l o.name) (sym o.are) (among_back o.before (o.name ∷ o.behind) o.name (inl refl)), o.rose)
 
 -- ---- open outputs by their places
 

@@ -36,7 +36,7 @@ use Rattle.snoop_run.specs.State.{IsNew, Crosses}
 use Rattle.snoop_run.specs.declared.bridge.Bridge.{Bridge}
 use Rattle.snoop_run.specs.declared.run.Crossed.{Crossed}
 use Rattle.snoop_run.proofs.NameLemmas.{outputs_differ}
-use Rattle.run_files.proofs.NameLemmas.{counted_among, among_rose, length-counted}
+use Rattle.run_files.proofs.NameLemmas.{counted_among, length-counted}
 use Rattle.run_files.proofs.OpenLemmas.{At, slots_count, there, are_outputs, up_to_rose}
 use Rattle.run_files.proofs.OutputLemmas.{uses_outputs}
 
@@ -104,7 +104,7 @@ module _ (sides : List (String Global)) (ins : List (List Record)) (c : Settings
           (fronts_by a b (output_at sides) (λ q. capture (forwarder_of c) q came) 0 1 n (λ q lt.
           elim (o.opens.each told (output_at sides (0 + q))) [ inl same ↦ inl same | inr empty ↦ inr ([], empty, (capture (forwarder_of c) (1 + q) came, refl)) ])),
     );
-    uses = uses_outputs (Among outs) Write a b o.opens.touches (among_rose a.write_faults b.write_faults outs (up_to_rose outs a b o.cause), o.opens.reads);
+    uses = uses_outputs (Among outs) Write a b o.opens.touches (up_to_rose outs a b o.cause, o.opens.reads);
   }
 
   module _ (b d : Seen) (slots : ArrayVec ℕ) (different : AreDifferent sides) (o : OpensOutputs outs a b (Ok slots)) where
