@@ -19,7 +19,7 @@ use Rattle.fab_gather.specs.First.{IsNextWindow, LooksFirst, Start}
 use Rattle.fab_base.specs.Slots.{NameIn}
 use Rattle.fab_gather.specs.Ports.{AreInputs, slots_of, walk_at}
 use Rattle.fab_gather.specs.Walked.{Walked}
-use Rattle.fab_gather.proofs.UsesLemmas.{rose_at, uses_rose, uses_touches}
+use Rattle.fab_gather.proofs.UsesLemmas.{uses_rose, uses_touches}
 use Rattle.fab_gather.proofs.WalkedLemmas.{walked_first}
 use Rattle.fab_replay.specs.Lines.{IsBehind, IsInside, text_in}
 use Rattle.fab_replay.specs.Owed.{AreNew}
@@ -66,8 +66,7 @@ module _ (k : Task) (looked : Start) (F : Contents) (p : Place)
         all = holds_nothing k.settings s.0 1 (all_records (captures_in k)) s.3;
       })
       (λ is.
-      rose_front (slots_of k.start.ins) k.outs k.start.seen looked.seen
-      (rose_at k.start.seen (slots_of k.start.ins) k.start.seen.read_faults looked.seen.read_faults (uses_rose Ins k.start.seen looked.seen f.uses (ap gather_end is))))
+      rose_front (slots_of k.start.ins) k.outs k.start.seen looked.seen (uses_rose Ins k.start.seen looked.seen f.uses (ap gather_end is)))
 
   left_looks : (e : GatherFault) → LooksFirst k.settings k.start looked (Err e) → IsAlong (scene_of k) k.start.seen.told [] F p → LeftBy k F (check_fault e)
   left_looks e f along = left_stopped k [] F p along e (λ told stopped. let s = f.stops told stopped in record { at = s.0; is = s.1; all = holds_nothing k.settings s.0 1 (all_records (captures_in k)) s.3 })

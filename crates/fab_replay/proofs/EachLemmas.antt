@@ -58,7 +58,7 @@ module _ (slots : List ℕ) (k : ℕ) (a b d : Seen) (are : AreInputs a slots) (
     others_left q ne less = reads.keeps.left (slot_at slots q) (same_input q less) (λ e. ne (are.differ q k less lt (sym (same_name q less) ∙ e ∙ same_name k lt)))
 
   pub rose_on : Rose (b.read_faults (b.name s)) (d.read_faults (b.name s)) → OneRose slots a d
-  rose_on rose = (k, lt, rose_later _ _ _ (touches.reads_rise (name_of a slots k)) (subst (λ n. Rose (b.read_faults n) (d.read_faults n)) (same_name k lt) rose))
+  rose_on rose = (name_of a slots k, (k, lt, refl), rose_later _ _ _ (touches.reads_rise (name_of a slots k)) (subst (λ n. Rose (b.read_faults n) (d.read_faults n)) (same_name k lt) rose))
 
 -- ---- pages
 

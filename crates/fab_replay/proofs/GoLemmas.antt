@@ -31,7 +31,7 @@ use Rattle.fab_gather.specs.Reads.{IsWhole, batches_of}
 use Rattle.fab_gather.specs.Walked.{Walked}
 use Rattle.fab_gather.proofs.SlotLemmas.{inputs_stay, name_in, same_length}
 use Rattle.fab_gather.proofs.StayLemmas.{LeftStays, left_stays}
-use Rattle.fab_gather.proofs.UsesLemmas.{rose_at, uses_rose, uses_touches}
+use Rattle.fab_gather.proofs.UsesLemmas.{uses_rose, uses_touches}
 use Rattle.fab_gather.proofs.WalkedLemmas.{next_later, next_soon, ports_on, tells_on, walked_ahead, walked_next, walked_on, walked_splits, walked_stays}
 use Rattle.fab_replay.specs.AllOutputs.{IsFirst, OneRose, page_at}
 use Rattle.fab_replay.specs.Check.{Checks, IsFirstStop, NamesRun, Says, sent_on, Task, captures_in, matter_of, slots_in}
@@ -276,7 +276,7 @@ module _ (laws : Laws) (k : Task) (w : ℕ) (here : Stand) (g : Going k w here) 
           all = kept_held J told h.front.frames own s.0 s.3;
         })
         (λ is.
-        let rose : OneRose (slots_of ins) d b = rose_at d (slots_of ins) d.read_faults b.read_faults (uses_rose Ins d b t.uses (ap gather_end is)) in
+        let rose : OneRose (slots_of ins) d b = uses_rose Ins d b t.uses (ap gather_end is) in
         rose_in_all (OfTask k) k.start.seen d g.touches (slots_in k) g.inputs b (rose_front xs k.outs d b (subst (λ s. OneRose s d b) g.walked.slots rose)))
 
     -- what the fabric stands for where that ends the check

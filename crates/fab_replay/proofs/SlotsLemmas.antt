@@ -1,6 +1,6 @@
 -- The slots of the captures, and those of the outputs behind them.
 use Rattle.std.proofs.Common.{◌≡◌, ℕ, zero, suc, ◌+◌, ◌<◌, List, [], ◌∷◌, ◌++◌, length, length-append, IsTrue, refl, sym, ap, ◌∙◌, subst, arith}
-use Rattle.fab_base.specs.Seen.{Seen, Rose, Touches, Nothing}
+use Rattle.fab_base.specs.Seen.{Seen, Touches, Nothing}
 use Rattle.fab_base.proofs.SeenLemmas.{rose_later}
 use Rattle.fab_base.specs.Slots.{NameIn, name_of, slot_at}
 use Rattle.fab_gather.specs.Ports.{AreInputs}
@@ -71,14 +71,14 @@ module _ (xs ys : List ℕ) where
 
     module _ (e : Seen) where
       pub rose_front : OneRose xs d e → OneRose (xs ++ ys) d e
-      rose_front h = (h.0, within_front h.0 h.1, subst (λ n. Rose (d.read_faults n) (e.read_faults n)) (sym (name_front h.0 h.1)) h.2)
+      rose_front h = (h.0, in_front h.0 h.1, h.2)
 
       pub rose_back : OneRose ys d e → OneRose (xs ++ ys) d e
-      rose_back h = (length xs + h.0, within_back h.0 h.1, subst (λ n. Rose (d.read_faults n) (e.read_faults n)) (sym (name_back h.0)) h.2)
+      rose_back h = (h.0, in_back h.0 h.1, h.2)
 
 -- ---- open slots, while some of them are read
 
 -- a count that rose later rose in all
 pub rose_in_all : (counted : List ℕ → Type 0) (a b : Seen) → Touches Nothing counted a b → (slots : List ℕ) → AreInputs a slots → (d : Seen) → OneRose slots b d → OneRose slots a d
 rose_in_all counted a b t slots o d h =
-    (h.0, h.1, rose_later _ _ _ (t.reads_rise (name_of a slots h.0)) (subst (λ n. Rose (b.read_faults n) (d.read_faults n)) (named_as Nothing counted a b slots t o h.0 h.1) h.2))
+    (h.0, (h.1.0, h.1.1, h.1.2 ∙ named_as Nothing counted a b slots t o h.1.0 h.1.1), rose_later _ _ _ (t.reads_rise h.0) h.2)

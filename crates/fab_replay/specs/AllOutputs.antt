@@ -1,10 +1,11 @@
 -- The outputs of all ports, each against the bytes that it should have.
 use Rattle.std.specs.Prelude.{◌≡◌, ℕ, ◌+◌, ◌<◌, IsTrue, List, ◌++◌, length, slice_get, Option, None, Some, Result, IfOk, OnOk, OnErr, Vec}
 use Rattle.std.specs.declared.alloc.Global.{Global}
-use Rattle.fab_base.specs.Seen.{Seen, Rose, Touches, Nothing, SameReadFaults, SameWriteFaults}
+use Rattle.fab_base.specs.Ending.{RoseIn}
+use Rattle.fab_base.specs.Seen.{Seen, Touches, Nothing, SameReadFaults, SameWriteFaults}
 use Rattle.fab_base.specs.declared.values.Failed.{Failed}
 use Rattle.fab_pages.specs.Pages.{items_in, piece_at}
-use Rattle.fab_base.specs.Slots.{slot_at, name_of, NameIn}
+use Rattle.fab_base.specs.Slots.{slot_at, NameIn}
 use Rattle.fab_replay.specs.Outputs.{IsCompared, IsRead, GoesPart}
 use Rattle.fab_replay.specs.declared.outputs.Compared.{Compared}
 
@@ -18,7 +19,7 @@ AreRead d slots all found wanted = (q : ℕ) (c : Compared) → slice_get all q 
 
 -- a count of read faults of one of these slots rose
 abbrev pub OneRose : List ℕ → Seen → Seen → Type 0
-OneRose slots a b = (q : ℕ) × (q < length slots) × Rose (a.read_faults (name_of a slots q)) (b.read_faults (name_of a slots q))
+OneRose slots a b = RoseIn (NameIn a slots) a.read_faults b.read_faults
 
 -- Reading each output on against the page of its port. It changes no file, and counts a fault only where it fails, of reading.
 pub record FeedsEach (slots : List ℕ) (pages : List (Vec ℕ Global)) (a b : Seen) (all all' : List Compared) (result : Result (Unit {0}) Failed) : Type 0 where

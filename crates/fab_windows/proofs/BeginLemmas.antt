@@ -3,7 +3,7 @@ use Rattle.std.proofs.Common.{◌≡◌, ℕ, suc, ◌+◌, ◌^◌, ◌<◌, �
 use Rattle.std.specs.Prelude.{unwrap_or, Vec}
 use Rattle.std.specs.declared.alloc.Global.{Global}
 use Rattle.fab_base.specs.Ending.{End, Uses}
-use Rattle.fab_base.specs.Seen.{Seen, Touches, Nothing, Rose}
+use Rattle.fab_base.specs.Seen.{Seen, Touches, Nothing}
 use Rattle.fab_base.specs.declared.values.Failed.{Failed}
 use Rattle.fab_base.proofs.EndingLemmas.{none_then, none_yet}
 use Rattle.fab_base.proofs.SeenLemmas.{rose_later, touches_refl, touches_trans, touches_wider}
@@ -29,7 +29,7 @@ use Rattle.fab_gather.specs.First.{IsNextWindow, LooksFirst, opened_in, start_at
 use Rattle.fab_base.specs.Slots.{NameIn}
 use Rattle.fab_gather.specs.Ports.{slots_of, AreInputs, walk_at}
 use Rattle.fab_gather.specs.Walked.{Walked}
-use Rattle.fab_gather.proofs.SlotLemmas.{inputs_stay, length-slots, name_in}
+use Rattle.fab_gather.proofs.SlotLemmas.{inputs_stay, name_in}
 use Rattle.fab_gather.proofs.UsesLemmas.{uses_rose, uses_touches}
 use Rattle.fab_gather.proofs.StayLemmas.{LeftStays, opened_stay}
 use Rattle.fab_gather.proofs.WalkedLemmas.{next_later, next_soon, walked_before, walked_first, walked_next}
@@ -123,8 +123,7 @@ module _ (laws : Laws) (k : Task) (given : AreGiven k.seen k.ins k.journal k.out
           (λ told x. ends_before k.settings k.budget (captures_in k) laws.nothing_run (Fronts k.settings d k.journal k.outs) (whole_is_front k.settings d k.journal k.outs [] (wholes_looks f.uses told))) (
             λ x.
                 let cause = uses_rose (NameIn a (slots_of k.ins)) a d f.uses (ap gather_end (read_from e x)) in
-                let at = name_then cause.0 cause.1 in
-                (at.0, omega (arith, at.1, length-slots k.ins), rose_later _ _ _ (w.uses.touches.reads_rise _) (subst (λ n. Rose (a.read_faults n) (d.read_faults n)) at.2 cause.2)),
+                (cause.0, name_then cause.0 cause.1, rose_later _ _ _ (w.uses.touches.reads_rise cause.0) cause.2),
             λ x. absurd (no_write_from e x),
             gathering_spares (NameIn a (slots_of k.ins)) e k.seen a d d w.uses.counts f.uses (none_yet d),
           )

@@ -1,5 +1,5 @@
 -- One window after another: how a turn ends, and what stands after it.
-use Rattle.std.proofs.Common.{◌≡◌, ◌≢◌, ℕ, ◌<◌, ◌≤◌, ◌⊎◌, inl, inr, List, length, Some, IsTrue, Result, Ok, Err, refl, sym, ap, ◌∙◌, subst, arith}
+use Rattle.std.proofs.Common.{◌≡◌, ◌≢◌, ℕ, ◌≤◌, ◌⊎◌, inl, inr, List, Some, IsTrue, Result, Ok, Err, refl, sym, ap, ◌∙◌, subst, arith}
 use Rattle.fab_base.specs.Ending.{End, Said, Read, Write, Memory, NoFaults, IsSaid, RoseIn, Uses}
 use Rattle.fab_base.specs.Seen.{Seen, Touches, Nothing, Rose}
 use Rattle.fab_base.specs.declared.values.Failed.{Failed}
@@ -20,14 +20,14 @@ use Rattle.pcap_file.specs.Faults as gathering
 use Rattle.pcap_file.specs.Faults.{gather_end}
 use Rattle.run_files.specs.Faults.{fault_from, run_end, IsUnwritten}
 use Rattle.fab_base.proofs.EndingLemmas.{none_then}
-use Rattle.fab_base.specs.Slots.{name_of, NameIn}
+use Rattle.fab_base.specs.Slots.{NameIn}
 use Rattle.fab_gather.specs.Ports.{slots_of, AreInputs, stop_from, walk_at}
 use Rattle.fab_windows.specs.declared.Done.{Done}
 use Rattle.fab_windows.specs.Files.{AreFiles, Written, Pending, Wholes, WholesBut, Fronts, Writes}
 use Rattle.fab_windows.specs.Run.{Interrupted, Stopped, Ends, SparesFaults}
 use Rattle.fab_windows.specs.Turns.{Laws, Task, captures_in, start_of, Touched, Reached, Ended}
 use Rattle.fab_gather.specs.Gather.{Gathers}
-use Rattle.fab_gather.proofs.SlotLemmas.{inputs_stay, length-slots, name_in}
+use Rattle.fab_gather.proofs.SlotLemmas.{inputs_stay, name_in}
 use Rattle.fab_gather.proofs.UsesLemmas.{uses_rose, uses_touches}
 use Rattle.fab_gather.proofs.StayLemmas.{LeftStays}
 use Rattle.fab_gather.proofs.WalkedLemmas.{walked_ahead, walked_splits, walked_stays}
@@ -41,7 +41,7 @@ use Rattle.fab_windows.proofs.UsesLemmas.{writing_touches}
 
 abbrev Causes : Task → Seen → RunFault → Type 0
 Causes k d e =
-    (e ≡ fault.Read → (q : ℕ) × (q < length k.ins) × Rose (k.seen.read_faults (name_of k.seen (slots_of k.ins) q)) (d.read_faults (name_of k.seen (slots_of k.ins) q)))
+    (e ≡ fault.Read → RoseIn (NameIn k.seen (slots_of k.ins)) k.seen.read_faults d.read_faults)
     × (e ≡ fault.Write → RoseIn (Written k.seen k.journal k.outs) k.seen.write_faults d.write_faults)
     × SparesFaults (run_end e) k.seen d
 
@@ -162,10 +162,8 @@ module _ (laws : Laws) (k : Task) (w first : ℕ) (F : Contents) (d : Seen) (ins
     told_then : IsTrue k.seen.told → IsTrue b.told
     told_then told = subst IsTrue (sym t.touches.told) (told_on told)
 
-    rose_on : RoseIn (NameIn d (slots_of ins)) d.read_faults b.read_faults → (p : ℕ) × (p < length k.ins) × Rose (k.seen.read_faults (name_of k.seen (slots_of k.ins) p)) (b.read_faults (name_of k.seen (slots_of k.ins) p))
-    rose_on rose =
-        let at = name_now rose.0 rose.1 in
-        (at.0, omega (arith, at.1, length-slots k.ins), rose_later _ _ _ (r.touches.reads_rise _) (subst (λ n. Rose (d.read_faults n) (b.read_faults n)) at.2 rose.2))
+    rose_on : RoseIn (NameIn d (slots_of ins)) d.read_faults b.read_faults → RoseIn (NameIn k.seen (slots_of k.ins)) k.seen.read_faults b.read_faults
+    rose_on rose = (rose.0, name_now rose.0 rose.1, rose_later _ _ _ (r.touches.reads_rise rose.0) rose.2)
 
     module _ (p : Pending) (files : IsTrue k.seen.told → WholesBut p k.settings d k.journal k.outs r.entry_list) where
       pub but_on : IsTrue k.seen.told → WholesBut p k.settings b k.journal k.outs r.entry_list
