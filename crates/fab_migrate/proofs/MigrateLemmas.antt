@@ -80,7 +80,7 @@ module _ (from to : List ℕ) (slot limit : ℕ) (a b c : Seen) (opens : OpensIn
     unrewritten_uses olds.Memory w = uses_refused (Only from) (Only to) a c (input_uses (Ok v) r)
 
     unrewritten_says : (e : OldError) → Rewrites v.items (Err e) → IsTrue a.told → SaysOld from limit a e
-    unrewritten_says (olds.Fault line fault) w told = (v.items, found told, within told, w)
+    unrewritten_says (olds.Fault line fault) w told = (v.items, found told, (within told, w))
     unrewritten_says olds.Bytes w told = absurd w
     unrewritten_says (olds.Read f) w told = absurd w
     unrewritten_says olds.Memory w told = tt

@@ -1,7 +1,7 @@
 -- What migrating the journal in one file to another file does.
 use Rattle.std.specs.Prelude.{◌≡◌, ℕ, ◌≤◌, ◌<◌, List, length, IsTrue, Some, Result, Ok, Err}
 use Rattle.fab_base.specs.Ending as ending
-use Rattle.fab_base.specs.Ending.{End, HoldsSome}
+use Rattle.fab_base.specs.Ending.{End, WhereSaid, HoldsSome}
 use Rattle.fab_base.specs.Seen.{Seen, SameFiles}
 use Rattle.fab_policy.specs.Journal.{Journal}
 use Rattle.fab_policy.specs.Ranged.{IsRanged}
@@ -13,19 +13,22 @@ use Rattle.fab_migrate.specs.declared.old.OldError.TheVariants as errors
 use Rattle.fab_migrate.specs.declared.old.MigrateError.{MigrateError}
 use Rattle.fab_migrate.specs.declared.old.MigrateError.TheVariants as ends
 
--- why an input isn't migrated; a depot's fault and want of memory say nothing of its bytes
-abbrev pub SaysOld : List ℕ → ℕ → Seen → OldError → Type 0
-SaysOld from limit old (errors.Fault line fault) = (l : List ℕ) × (old.file from ≡ Some l) × (length l ≤ limit) × HasFirstFault l line fault
-SaysOld from limit old errors.Bytes = (l : List ℕ) × (old.file from ≡ Some l) × (limit < length l)
-SaysOld from limit old (errors.Read failed) = Unit {0}
-SaysOld from limit old errors.Memory = Unit {0}
-
 -- what an error rests on
 abbrev pub old_end : OldError → End
 old_end (errors.Fault line fault) = ending.Said
 old_end errors.Bytes = ending.Said
 old_end (errors.Read failed) = ending.Read
 old_end errors.Memory = ending.Memory
+
+-- what an error says of the bytes of a journal
+abbrev pub OldSays : ℕ → List ℕ → OldError → Type 0
+OldSays limit l (errors.Fault line fault) = (length l ≤ limit) × HasFirstFault l line fault
+OldSays limit l errors.Bytes = limit < length l
+OldSays limit l error = ⊥
+
+-- why an input isn't migrated; a depot's fault and want of memory say nothing of its bytes
+abbrev pub SaysOld : List ℕ → ℕ → Seen → OldError → Type 0
+SaysOld from limit old e = WhereSaid (old_end e) ((l : List ℕ) × (old.file from ≡ Some l) × OldSays limit l e)
 
 -- the same of the call
 abbrev pub migrating_end : MigrateError → End
