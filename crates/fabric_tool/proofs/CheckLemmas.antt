@@ -10,7 +10,7 @@ use Rattle.pcap_file.specs.declared.Budget.{Budget}
 use Rattle.fab_policy.specs.Journal.{Journal}
 use Rattle.fab_policy.specs.Standing.{Contents}
 use Rattle.fab_gather.specs.First.{opened_in}
-use Rattle.fab_base.specs.Slots.{slot_at, name_of, NameIn}
+use Rattle.fab_base.specs.Slots.{slot_at, NameIn}
 use Rattle.fab_gather.specs.Ports.{slots_of}
 use Rattle.fab_gather.specs.declared.shelf.Input.{Input}
 use Rattle.pcap_file.specs.declared.fault.GatherFault.{GatherFault}
@@ -21,7 +21,7 @@ use Rattle.fab_replay.specs.declared.fault.CheckFault.{CheckFault}
 use Rattle.fab_replay.specs.declared.fault.CheckFault.TheVariants as checks
 use Rattle.fabric_tool.specs.Checking.{budget_of, output_in, matter_of, HasMatter, HasGiven, Finds, IsStanding, IsUnread, IsChecked, AreOpenInputs, reads_of, refused_by}
 use Rattle.fabric_tool.specs.Command.{are_ports, names_of, ins_of, count_of, input_of}
-use Rattle.run_files.specs.Names.{Among, AnyRose}
+use Rattle.run_files.specs.Names.{Among}
 use Rattle.fabric_tool.specs.Ending.{CountsOf}
 use Rattle.fabric_tool.specs.Inputs.{AreOpened, MOST_BYTES, MOST_FRAMES}
 use Rattle.fabric_tool.specs.Outcome.{outcome_end}
@@ -37,7 +37,7 @@ use Rattle.fabric_tool.proofs.HeadLemmas.{heads_opened, heads_since}
 use Rattle.fabric_tool.proofs.JournalLemmas.{outs_count}
 use Rattle.fabric_tool.proofs.SinceLemmas.{without_since, no_room_since, unread_since}
 use Rattle.fabric_tool.proofs.SlotLemmas.{heads_on, all_named, slots_among}
-use Rattle.fabric_tool.proofs.UseLemmas.{used_touches, used_files, used_told, used_counts, any_rose}
+use Rattle.fabric_tool.proofs.UseLemmas.{used_touches, used_files, used_told, used_counts}
 pub use Rattle.fabric_tool.proofs.SlotLemmas.{ins_named}
 
 -- ---- the same matter, told by slots and by names
@@ -203,7 +203,7 @@ module _ (w : Width) (words : List (String Global)) (run : are_ports w words ≡
     unread_behind o z are before rose told =
         let names = ins_of w words ++ (names_of w words).outs in
         inr (inr (inr (
-          subst (λ l. AnyRose a.read_faults z.read_faults (l ++ (names_of w words).outs)) (sym (ins_named w words)) (rose_since a.read_faults o.read_faults z.read_faults before.touches.reads_rise names (any_rose o.read_faults z.read_faults names rose)),
+          subst (λ l. RoseIn (Among (l ++ (names_of w words).outs)) a.read_faults z.read_faults) (sym (ins_named w words)) (rose_since a.read_faults o.read_faults z.read_faults before.touches.reads_rise names rose),
           record { settings = c; opened = opened_in o ins; journal = journal; matter = matter_at o are told; says = tt },
         )))
 
@@ -261,7 +261,7 @@ module _ (w : Width) (words : List (String Global)) (run : are_ports w words ≡
         of_slots n at = slots_among w words run o (slots_of ins ++ slots) (all_named w words run b m o ins heads slots (used_touches opened) outs) n at
 
         rose_in : r ≡ Err checks.Read → RoseIn (NameIn o (slots_of ins ++ slots)) o.read_faults z.read_faults
-        rose_in is = let at = all.read is in (name_of o (slots_of ins ++ slots) at.0, (at.0, at.1, refl), at.2)
+        rose_in is = all.read is
 
         used : (t : Result ℕ CheckFault) → r ≡ t → Uses (Among own) Nothing (end_by counts.check_end t) a z
         used t is =

@@ -140,8 +140,8 @@ module _ (k : EnodeNames) (a b : Seen) where
   ran (Ok last) runs u = (keeps u.touches.files, runs, u.counts)
   ran (Err (faults.Capture port at why)) runs u = (runs.0, runs.1, u.counts)
   ran (Err (faults.Limit kind)) runs u = (runs.0, runs.1, u.counts)
-  ran (Err faults.Read) runs u = (runs, λ told. tt, (inl (rose_only k.from a.read_faults b.read_faults u.counts.0), u.counts.1))
-  ran (Err faults.Write) runs u = (keeps u.touches.files, runs, (inl (rose_only k.to a.write_faults b.write_faults u.counts.0), u.counts.1))
+  ran (Err faults.Read) runs u = (runs, λ told. tt, ((k.from, inl refl, rose_only k.from a.read_faults b.read_faults u.counts.0), u.counts.1))
+  ran (Err faults.Write) runs u = (keeps u.touches.files, runs, ((k.to, inl refl, rose_only k.to a.write_faults b.write_faults u.counts.0), u.counts.1))
   ran (Err faults.Memory) runs u = (runs, λ told. tt, u.counts)
 
 -- the files that words name

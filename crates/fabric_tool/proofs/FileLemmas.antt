@@ -38,7 +38,7 @@ module _ (k : PairNames) (a b : Seen) where
   not_converted : (e : NgError) → Converts k.from k.to LIMITS a b (Err (errors.Input e)) → Uses (Only k.from) (Only k.to) (ng_end e) a b → Holds (Convert k) a b (unconverted_by e)
   not_converted (ng.Fault at fault) c u = (c.0, c.1, u.counts)
   not_converted (ng.Limit limit) c u = (c.0, λ told. (limit, refl, c.1 told), u.counts)
-  not_converted (ng.Read failed) c u = (c.0, λ told. tt, (inl (rose_only k.from a.read_faults b.read_faults u.counts.0), u.counts.1))
+  not_converted (ng.Read failed) c u = (c.0, λ told. tt, ((k.from, inl refl, rose_only k.from a.read_faults b.read_faults u.counts.0), u.counts.1))
   not_converted ng.Memory c u = ((λ m none. c.0 m), λ told. Same (c.0 k.to), u.counts)
 
   pub input_refused : (e : NgError) (o : Outcome) → o ≡ unconverted_by e → (x : ConvertError) → x ≡ errors.Input e → Converts k.from k.to LIMITS a b (Err x) → Uses (Only k.from) (Only k.to) (converting_end x) a b → Holds (Convert k) a b o
@@ -51,7 +51,7 @@ module _ (k : PairNames) (a b : Seen) where
   output_failed failed x is c u =
       let w = subst (λ (y : ConvertError). Converts k.from k.to LIMITS a b (Err y)) is c in
       let v = subst (λ (y : ConvertError). Uses (Only k.from) (Only k.to) (converting_end y) a b) is u in
-      (others_keep k a b v.touches.files, w, (inl (rose_only k.to a.write_faults b.write_faults v.counts.0), v.counts.1))
+      (others_keep k a b v.touches.files, w, ((k.to, inl refl, rose_only k.to a.write_faults b.write_faults v.counts.0), v.counts.1))
 
   -- ---- `migrate`
 
@@ -61,7 +61,7 @@ module _ (k : PairNames) (a b : Seen) where
   not_migrated : (e : OldError) → Migrates k.from k.to MOST_BYTES a b (Err (moves.Input e)) → Uses (Only k.from) (Only k.to) (old_end e) a b → Holds (Migrate k) a b (unmigrated_by e)
   not_migrated (olds.Fault line fault) c u = (c.0, c.1, u.counts)
   not_migrated olds.Bytes c u = (refl, (c.0, c.1, u.counts))
-  not_migrated (olds.Read failed) c u = (c.0, λ told. tt, (inl (rose_only k.from a.read_faults b.read_faults u.counts.0), u.counts.1))
+  not_migrated (olds.Read failed) c u = (c.0, λ told. tt, ((k.from, inl refl, rose_only k.from a.read_faults b.read_faults u.counts.0), u.counts.1))
   not_migrated olds.Memory c u = ((λ m none. c.0 m), λ told. Untouched (c.0 k.to), u.counts)
 
   pub journal_refused : (e : OldError) (o : Outcome) → o ≡ unmigrated_by e → (x : MigrateError) → x ≡ moves.Input e → Migrates k.from k.to MOST_BYTES a b (Err x) → Uses (Only k.from) (Only k.to) (migrating_end x) a b → Holds (Migrate k) a b o
@@ -74,7 +74,7 @@ module _ (k : PairNames) (a b : Seen) where
   journal_failed failed x is c u =
       let w = subst (λ (y : MigrateError). Migrates k.from k.to MOST_BYTES a b (Err y)) is c in
       let v = subst (λ (y : MigrateError). Uses (Only k.from) (Only k.to) (migrating_end y) a b) is u in
-      (others_keep k a b v.touches.files, w, (inl (rose_only k.to a.write_faults b.write_faults v.counts.0), v.counts.1))
+      (others_keep k a b v.touches.files, w, ((k.to, inl refl, rose_only k.to a.write_faults b.write_faults v.counts.0), v.counts.1))
 
 -- ---- names that are words
 

@@ -35,7 +35,7 @@ use Rattle.fab_replay.proofs.OneLemmas.{same_frames}
 use Rattle.run_files.specs.Names.{Among}
 use Rattle.run_files.specs.Opening.{AreEmptyOutputs}
 use Rattle.fab_base.proofs.EndingLemmas.{none_then, uses_refused, uses_then, uses_wider, rose_only, opens_in_uses}
-use Rattle.run_files.proofs.NameLemmas.{rose_among, rose_since, length-counted, counted_among}
+use Rattle.run_files.proofs.NameLemmas.{rose_since, length-counted, counted_among}
 use Rattle.run_files.proofs.OpenLemmas.{there, slots_count, are_outputs, up_to_rose}
 use Rattle.fabric_tool.specs.Command.{LiveWords, Live, AllKnown, is_live, live_of, live_count, came_at, sent_at, by_port}
 use Rattle.fabric_tool.specs.Inputs.{HasConfig, AreCaptures, LIMITS}
@@ -502,7 +502,7 @@ module _ (words : List (String Global)) (live : is_live words ≡ true) (safe : 
           let since = rose_later (old.read_faults kk.stream) (a.read_faults kk.stream) (b.read_faults kk.stream) (rise_reads kk.stream) named in (
             others b x.uses.touches,
             λ told. let e = x.ends (told_a told) in inr (inr (since, halted b x.uses.touches IsBegun told e.0 e.1 e.2)),
-            (inr (inl since), λ name. x.uses.counts.1 name ∙ quiet_a.1 name),
+            ((kk.stream, inr (inl refl), since), λ name. x.uses.counts.1 name ∙ quiet_a.1 name),
           )
       live_ended b (Err fault.Write) x =
           let rose = x.uses.counts.0 in
@@ -510,7 +510,7 @@ module _ (words : List (String Global)) (live : is_live words ≡ true) (safe : 
           let among = written_among words live a files.journal files.ins.items files.outs.items r.slots width.0 width.1 rose.0 rose.1 in (
             others b x.uses.touches,
             λ told. let e = x.ends (told_a told) in front b x.uses.touches told e.0 e.1 e.2,
-            (rose_since old.write_faults a.write_faults b.write_faults rise_writes all (rose_among a.write_faults b.write_faults all rose.0 among rose.2), λ name. x.uses.counts.1 name ∙ quiet_a.0 name),
+            (rose_since old.write_faults a.write_faults b.write_faults rise_writes all (rose.0, among, rose.2), λ name. x.uses.counts.1 name ∙ quiet_a.0 name),
           )
       live_ended b (Err fault.Memory) x =
           (others b x.uses.touches, λ told. let e = x.ends (told_a told) in refused b x.uses.touches told e.0 e.1 e.2, none_then old a b quiet_a x.uses.counts)

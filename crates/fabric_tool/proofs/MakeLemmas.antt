@@ -9,12 +9,13 @@ use Rattle.fab_base.specs.Seen.{Seen, SameWriteFaults, OpensOut}
 use Rattle.fab_base.specs.declared.values.Failed.{Failed}
 use Rattle.fab_base.proofs.EndingLemmas.{none_then}
 use Rattle.fab_base.specs.Counting.{counting}
+use Rattle.fab_base.specs.Slots.{NameIn}
 use Rattle.pcap_file.proofs.lemmas.Numbers.{le_or_lt}
-use Rattle.fab_vectors.specs.Making.{AreNine, IsNamed, Makes, file_text}
+use Rattle.fab_vectors.specs.Making.{AreNine, Makes, file_text}
 use Rattle.fab_vectors.specs.declared.MakeFault.{MakeFault}
 use Rattle.fab_vectors.specs.declared.MakeFault.TheVariants as faults
 use Rattle.fabric_tool.specs.Command.{Make, is_make, files_of, make_of, file_at, names_from, are_names}
-use Rattle.run_files.specs.Names.{Among, AnyRose}
+use Rattle.run_files.specs.Names.{Among}
 use Rattle.fabric_tool.specs.Ends.{Holds, KeepsOthers, TouchesOwn}
 use Rattle.fabric_tool.specs.Load.{HasLoadFront, file_name}
 use Rattle.fabric_tool.specs.Opening.{FilesOpened}
@@ -22,7 +23,7 @@ use Rattle.run_files.specs.Opening.{AreEmptyOutputs, Opens}
 use Rattle.fabric_tool.specs.declared.making.LoadFiles.{LoadFiles}
 use Rattle.fabric_tool.specs.declared.outcome.Outcome.TheVariants as ends
 use Rattle.fabric_tool.proofs.AmongLemmas.{none_among}
-use Rattle.run_files.proofs.NameLemmas.{among_counted, counted_among, rose_among, rose_since, split_names, push_name}
+use Rattle.run_files.proofs.NameLemmas.{among_counted, counted_among, rose_since, split_names, push_name}
 use Rattle.fabric_tool.proofs.NameLemmas.{and_true, words_differ, name_counted}
 use Rattle.fabric_tool.proofs.TouchLemmas.{own_then, own_wider, own_written}
 use Rattle.run_files.proofs.OpenLemmas.{At, OpenedSoFar, opened_more, opened_failed, slots_count, there, up_to_rose}
@@ -103,8 +104,12 @@ module _ (words : List (String Global)) (make : is_make words ≡ true) (b : See
     empty = λ told q lt. ap b.file (a_file q lt).name_is ∙ (a_file q lt).empty told;
   }
 
-  named_among : (m : List ℕ) → IsNamed b slots m → Among (files_of words) m
-  named_among m named = subst (Among (files_of words)) (sym (named.2 ∙ (a_file named.0 named.1).name_is)) (counted_among (file_at words) 0 9 named.0 (omega arith) named.1)
+  named_among : (m : List ℕ) → NameIn b slots m → Among (files_of words) m
+  named_among m named =
+      let count = nine in
+      let lt = named.1 in
+      let within : named.0 < 9 = omega arith in
+      subst (Among (files_of words)) (sym (named.2 ∙ (a_file named.0 within).name_is)) (counted_among (file_at words) 0 9 named.0 (omega arith) within)
 
   -- the name of a file by its place
   name_of_file : (number q : ℕ) → q < 9 → b.name (slice_index slots q) ≡ file_name (make_of number words) q
@@ -122,7 +127,7 @@ module _ (words : List (String Global)) (make : is_make words ≡ true) (b : See
     fronts : IsTrue a.told → HasLoadFront (make_of number words) a d
     fronts told q lt =
         let h = m.front (told_on told) q lt in
-        inr (h.0, sym (ap d.file (name_of_file number q lt)) ∙ h.2, (h.1, h.3))
+        inr (h.0, sym (ap d.file (name_of_file number q lt)) ∙ h.1, h.2)
 
     pub made_own : TouchesOwn (Make (make_of number words)) a d
     made_own =
@@ -143,8 +148,7 @@ module _ (words : List (String Global)) (make : is_make words ≡ true) (b : See
     made_failed is =
         let n = subst (λ x. Makes number slots b d x) is m in
         let one = n.uses.counts.0 in
-        let rose : AnyRose b.write_faults d.write_faults (files_of words) = rose_among b.write_faults d.write_faults (files_of words) one.0 (named_among one.0 one.1) one.2 in
-        (keeps, fronts, (rose_since a.write_faults b.write_faults d.write_faults opens.touches.writes_rise (files_of words) rose, λ x. n.uses.counts.1 x ∙ opens.reads x))
+        (keeps, fronts, (rose_since a.write_faults b.write_faults d.write_faults opens.touches.writes_rise (files_of words) (one.0, named_among one.0 one.1, one.2), λ x. n.uses.counts.1 x ∙ opens.reads x))
 
 -- an output that couldn't be opened
 pub not_opened : (number : ℕ) (words : List (String Global)) (a b : Seen) (e : Failed) → FilesOpened (files_of words) a b (Err e) → Holds (Make (make_of number words)) a b ends.WriteFault

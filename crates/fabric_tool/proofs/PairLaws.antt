@@ -138,7 +138,7 @@ migrate_found k old new l told found = go
 
     go : (o : Outcome) → Said old (migrate_ending k old new o) → MigrateSays l o ⊎ (o ≡ ends.Memory)
     go (ends.Migrated entries) h = let m = h told in inl (subst (λ x. MigrateSays x (ends.Migrated entries)) (there m.bytes m.found) (m.within, m.lines, m.is, m.counted))
-    go (ends.BadLine line fault) h = let s = h told in inl (subst (λ x. MigrateSays x (ends.BadLine line fault)) (there s.0 s.1) (s.2, s.3))
+    go (ends.BadLine line fault) h = let s = h told in inl (subst (λ x. MigrateSays x (ends.BadLine line fault)) (there s.0 s.1) s.2)
     go (ends.Limit kind) h = let s = h.1 told in inl (subst (λ x. MigrateSays x (ends.Limit kind)) (there s.0 s.1) (s.2, h.0))
     go ends.Memory h = inr refl
     go o h = absurd h

@@ -41,10 +41,10 @@ use Rattle.fabric_tool.specs.Reading.{AreHeads, ConfigRead, HeadsRead, HeadsEnd}
 use Rattle.fabric_tool.specs.declared.outcome.Outcome.{Outcome}
 use Rattle.fabric_tool.specs.declared.outcome.Outcome.TheVariants as ends
 use Rattle.fabric_tool.proofs.AmongLemmas.{none_among}
-use Rattle.run_files.proofs.NameLemmas.{rose_among, rose_since, length-counted}
+use Rattle.run_files.proofs.NameLemmas.{rose_since, length-counted}
 use Rattle.run_files.proofs.OpenLemmas.{outputs_count, up_to_rose}
 use Rattle.fabric_tool.proofs.CaptureLemmas.{whole_captures}
-use Rattle.fabric_tool.proofs.GivenLemmas.{written_among, read_among, slots_length, ins_count, outs_count, given}
+use Rattle.fabric_tool.proofs.GivenLemmas.{written_among, read_among, ins_count, outs_count, given}
 use Rattle.fabric_tool.proofs.HeadLemmas.{heads_still, heads_since, heads_count, heads_opened}
 use Rattle.fabric_tool.proofs.NameLemmas.{pairs, inputs_apart}
 use Rattle.fabric_tool.proofs.PartLemmas.{empty_part, unwritten}
@@ -396,14 +396,12 @@ module _ (words : List (String Global)) (run : are_pairs words ≡ true) (c : Se
   )
   windows_ended (Err faults.Read) r =
       let rose = r.read refl in
-      let l = slots_length words run old a ins journal outs heads_a outputs in
-      let lt = rose.1 in
-      let among = read_among words run old a ins journal outs heads_a outputs (name_of a (slots_of ins) rose.0) (rose.0, omega arith, refl) in
+      let among = read_among words run old a ins journal outs heads_a outputs rose.0 rose.1 in
       let le = λ (n : List ℕ). le_trans (inputs.touches.reads_rise n) (opens.touches.reads_rise n) in
-      let unread = rose_since old.read_faults a.read_faults b.read_faults le k.ins (rose_among a.read_faults b.read_faults k.ins (name_of a (slots_of ins) rose.0) among rose.2) in (
+      let unread = rose_since old.read_faults a.read_faults b.read_faults le k.ins (rose.0, among, rose.2) in (
         others r.touches,
         λ told. inr (inr (unread, interrupted_whole r.touches told (r.ends (told_a told)))),
-        (inr unread, λ m. r.counts.1 m ∙ quiet.1 m),
+        ((unread.0, inr unread.1, unread.2), λ m. r.counts.1 m ∙ quiet.1 m),
       )
   windows_ended (Err faults.Write) r =
       let rose = r.write refl in
@@ -411,6 +409,6 @@ module _ (words : List (String Global)) (run : are_pairs words ≡ true) (c : Se
       let le = λ (n : List ℕ). le_trans (inputs.touches.writes_rise n) (opens.touches.writes_rise n) in (
         others r.touches,
         λ told. inr (interrupted_front r.touches told (r.ends (told_a told))),
-        rose_since old.write_faults a.write_faults b.write_faults le (k.journal ∷ k.outs) (rose_among a.write_faults b.write_faults (k.journal ∷ k.outs) rose.0 among rose.2),
+        rose_since old.write_faults a.write_faults b.write_faults le (k.journal ∷ k.outs) (rose.0, among, rose.2),
       )
   windows_ended (Err faults.Memory) r = (others r.touches, λ told. inr (interrupted_front r.touches told (r.ends (told_a told))), none_then old a b quiet r.counts)

@@ -38,7 +38,7 @@ use Rattle.fabric_tool.proofs.EndingLemmas.{Left, Said, IsAnswer, less}
 use Rattle.fabric_tool.proofs.Laws.{Laws, PrintsAlike, alike}
 use Rattle.fabric_tool.proofs.AmongLemmas.{none_among}
 use Rattle.fab_base.proofs.EndingLemmas.{none_then, rose_only}
-use Rattle.run_files.proofs.NameLemmas.{rose_among, rose_since}
+use Rattle.run_files.proofs.NameLemmas.{rose_since}
 use Rattle.fabric_tool.proofs.ConfigLemmas.{one_value, one_fault, no_fault}
 use Rattle.fabric_tool.proofs.PartLemmas.{all_fronts}
 use Rattle.fabric_tool.proofs.ReadLemmas.{config_refused}
@@ -263,15 +263,14 @@ module _ (k : SnoopNames) (c : Settings) (a b z : Seen) (config : ConfigRead k.c
       go (Err (faults.Capture port at why)) e counts = ((λ m. e.0 m ∙ same m), λ told. stopped_since (gather.Capture port at why) (e.1 (told_b told)) told, none counts)
       go (Err (faults.Limit kind)) e counts = ((λ m. e.0 m ∙ same m), λ told. stopped_since (gather.Limit kind) (e.1 (told_b told)) told, none counts)
       go (Err faults.Read) e counts =
-          let rose = counts.0 in (
+          let rose = rose_since a.read_faults b.read_faults z.read_faults touched.reads_rise k.ins counts.0 in (
             (λ m. e.0 m ∙ same m),
             λ told. inr (unread_since (e.1 (told_b told)) told),
-            (inr (rose_since a.read_faults b.read_faults z.read_faults touched.reads_rise k.ins (rose_among b.read_faults z.read_faults k.ins rose.0 rose.1 rose.2)), λ m. counts.1 m ∙ counted.1 m),
+            ((rose.0, inr rose.1, rose.2), λ m. counts.1 m ∙ counted.1 m),
           )
-      go (Err faults.Write) e counts =
-          let rose = counts.0 in (
-            others,
-            λ told. front_since (e (told_b told)) told,
-            (rose_since a.write_faults b.write_faults z.write_faults touched.writes_rise k.outs (rose_among b.write_faults z.write_faults k.outs rose.0 rose.1 rose.2), λ m. counts.1 m ∙ counted.0 m),
-          )
+      go (Err faults.Write) e counts = (
+        others,
+        λ told. front_since (e (told_b told)) told,
+        (rose_since a.write_faults b.write_faults z.write_faults touched.writes_rise k.outs counts.0, λ m. counts.1 m ∙ counted.0 m),
+      )
       go (Err faults.Memory) e counts = (others, λ told. elim (e (told_b told)) [ inl still ↦ inl (λ m. still m ∙ same m) | inr front ↦ inr (front_since front told) ], none counts)

@@ -1,11 +1,10 @@
 -- What calls leave and count that read files and write none.
 use Rattle.std.proofs.Common.{ℕ, List, IsTrue, sym, subst}
-use Rattle.fab_base.specs.Ending.{End, RoseIn, Uses}
+use Rattle.fab_base.specs.Ending.{End, Uses}
 use Rattle.fab_base.specs.Seen.{Seen, Touches, Nothing, SameFiles}
 use Rattle.fab_base.proofs.EndingLemmas.{none_yet, counts_then}
 use Rattle.fab_gather.proofs.UsesLemmas.{uses_touches}
-use Rattle.run_files.specs.Names.{Among, AnyRose}
-use Rattle.run_files.proofs.NameLemmas.{rose_among}
+use Rattle.run_files.specs.Names.{Among}
 use Rattle.fabric_tool.specs.Ending.{CountsOf}
 
 module _ {reads : List ℕ → Type 0} {end : End} {a b : Seen} (u : Uses reads Nothing end a b) where
@@ -21,8 +20,4 @@ module _ {reads : List ℕ → Type 0} {end : End} {a b : Seen} (u : Uses reads 
 
   -- what is counted is one of these names
   pub used_counts : (names written : List (List ℕ)) → ((m : List ℕ) → reads m → Among names m) → CountsOf names written end a b
-  used_counts names written are = counts_then end a a b (λ rose. rose_among a.read_faults b.read_faults names rose.0 (are rose.0 rose.1) rose.2) (λ rose. absurd rose.1) (none_yet a) u.counts
-
--- that the count of one of several names rose is said in two ways
-pub any_rose : (before now : List ℕ → ℕ) (names : List (List ℕ)) → RoseIn (Among names) before now → AnyRose before now names
-any_rose before now names rose = rose_among before now names rose.0 rose.1 rose.2
+  used_counts names written are = counts_then end a a b (λ rose. (rose.0, are rose.0 rose.1, rose.2)) (λ rose. absurd rose.1) (none_yet a) u.counts

@@ -1,7 +1,7 @@
 -- What `replay` and `show` find: a journal, and outputs, checked against captures.
 use Rattle.std.specs.Prelude.{◌≡◌, ℕ, ◌+◌, ◌-◌, ◌*◌, ◌≤◌, ◌<◌, ◌⊎◌, IsTrue, List, [], ◌∷◌, ◌++◌, length, get_or, Some, Ok, Err, Result, IfOk, IfErr, Vec}
 use Rattle.std.specs.declared.alloc.Global.{Global}
-use Rattle.fab_base.specs.Ending.{Said, Read, end_by, Uses}
+use Rattle.fab_base.specs.Ending.{Said, Read, end_by, RoseIn, Uses}
 use Rattle.fab_base.specs.Seen.{Seen, SameFiles, Nothing, Only, Rose, bytes_of}
 use Rattle.fab_base.specs.declared.values.Failed.{Failed}
 use Rattle.fab_config.specs.Settings.{Settings}
@@ -22,7 +22,7 @@ use Rattle.fab_replay.specs.declared.fault.CheckFault.{CheckFault}
 use Rattle.fab_replay.specs.declared.fault.CheckFault.TheVariants as checks
 use Rattle.fabric_tool.specs.Command.{RunNames, Command, Replay, Show}
 use Rattle.fabric_tool.specs.Ending.{Ending, Never, Untouched, Unread, EndsBy}
-use Rattle.run_files.specs.Names.{AnyRose, Among}
+use Rattle.run_files.specs.Names.{Among}
 use Rattle.fabric_tool.specs.declared.command.Width.{Width}
 use Rattle.fabric_tool.specs.declared.command.Width.TheVariants as widths
 use Rattle.fabric_tool.specs.Inputs.{HasConfig, HasFault, HasInputs, HasBadHead, HaveNoRoom, IsFirstUnread, MOST_BYTES, MOST_FRAMES}
@@ -117,7 +117,7 @@ IsUnread k old new =
     Rose (old.read_faults k.config) (new.read_faults k.config)
     ⊎ (((c : Settings) × HasConfig old k.config c × Rose (old.read_faults k.journal) (new.read_faults k.journal))
     ⊎ (IsCaptureUnread k old new
-    ⊎ (AnyRose old.read_faults new.read_faults (k.ins ++ k.outs) × Finds k old (λ c budget m. Unit {0}))))
+    ⊎ (RoseIn (Among (k.ins ++ k.outs)) old.read_faults new.read_faults × Finds k old (λ c budget m. Unit {0}))))
 
 -- How one of them ends but with status 0. No output is opened, and want of memory hides no fault.
 abbrev pub check_ending : RunNames → Seen → Seen → Outcome → Ending

@@ -2,9 +2,9 @@
 use Rattle.std.specs.Prelude.{◌≡◌, ℕ, false, IsTrue, List}
 use Rattle.std.specs.List.{list_any}
 use Rattle.std.specs.Str.{bytes_eq}
-use Rattle.fab_base.specs.Ending.{End, Said, Read, Write, Counts}
+use Rattle.fab_base.specs.Ending.{End, Said, Read, Write, Counts, RoseIn}
 use Rattle.fab_base.specs.Seen.{Seen, SameFiles}
-use Rattle.run_files.specs.Names.{AnyRose}
+use Rattle.run_files.specs.Names.{Among}
 
 -- How a command can end. What is said here of bytes needs a depot that tells them.
 pub data Ending : Type 1 where
@@ -27,10 +27,10 @@ pub data Ending : Type 1 where
 
 -- a fault of reading one of these names was counted, and of writing one
 abbrev pub ReadRose : List (List ℕ) → Seen → Seen → Type 0
-ReadRose names old new = AnyRose old.read_faults new.read_faults names
+ReadRose names old new = RoseIn (Among names) old.read_faults new.read_faults
 
 abbrev pub WriteRose : List (List ℕ) → Seen → Seen → Type 0
-WriteRose names old new = AnyRose old.write_faults new.write_faults names
+WriteRose names old new = RoseIn (Among names) old.write_faults new.write_faults
 
 -- no file changes but those of these names
 abbrev pub KeepsAllBut : List (List ℕ) → Seen → Seen → Type 0

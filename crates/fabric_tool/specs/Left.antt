@@ -22,10 +22,11 @@ use Rattle.fab_policy.specs.declared.verdict.Verdict.TheVariants.{Granted}
 use Rattle.run_files.specs.declared.fault.RunFault.{RunFault}
 use Rattle.fab_windows.specs.Files.{GoesOn, InOrder, captures, text_so_far, captures_so_far, file_bytes}
 use Rattle.fab_windows.specs.Run.{IsRunOver}
+use Rattle.fab_base.specs.Ending.{RoseIn}
 pub use Rattle.fab_base.specs.Ending.{IsOldOrFront}
 pub use Rattle.snoop_run.specs.Bridged.{AreOldOrFront}
 use Rattle.fabric_tool.specs.Command.{RunNames}
-use Rattle.run_files.specs.Names.{Among, AnyRose}
+use Rattle.run_files.specs.Names.{Among}
 use Rattle.fabric_tool.specs.Inputs.{AreCaptures, HasInputs, IsHeadUnread, StopsBy, stop_of, kept_of}
 
 -- ---- files
@@ -138,4 +139,4 @@ abbrev pub IsRunUnread : RunNames → Seen → Seen → Type 0
 IsRunUnread k old new =
     (SameFiles old new × Rose (old.read_faults k.config) (new.read_faults k.config))
     ⊎ ((SameFiles old new × IsHeadUnread k old new)
-    ⊎ (AnyRose old.read_faults new.read_faults k.ins × HasWholePart k old new))
+    ⊎ (RoseIn (Among k.ins) old.read_faults new.read_faults × HasWholePart k old new))

@@ -2,13 +2,14 @@
 use Rattle.std.specs.Prelude.{◌≡◌, ℕ, true, false, if◌then◌else◌, List, [], ◌∷◌, codes, Option, Some, None, String, refl}
 use Rattle.std.specs.Str.{bytes_eq}
 use Rattle.std.specs.declared.alloc.Global.{Global}
-use Rattle.std.proofs.Common.{inl, inr, arith}
+use Rattle.std.proofs.Common.{arith}
+use Rattle.fab_base.specs.Ending.{RoseIn}
 use Rattle.fab_base.specs.Seen.{Seen, Rose}
 use Rattle.fab_base.specs.Sunk.{Sunk}
 use Rattle.fab_config.specs.Settings.{Settings}
 use Rattle.pcap_file.specs.Capture.{head_bytes}
 use Rattle.fab_gather.specs.Looks.{Opened}
-use Rattle.run_files.specs.Names.{AnyRose}
+use Rattle.run_files.specs.Names.{Among}
 use Rattle.fabric_tool.specs.Command.{RunNames, Command, command}
 use Rattle.fabric_tool.specs.Ends.{inputs, outputs}
 use Rattle.fabric_tool.specs.Statuses.{IsQuiet, IsNamed, Says}
@@ -49,10 +50,8 @@ said bytes = record { told = true; written = bytes; faults = 0 }
 risen : Rose 0 0 → ⊥
 risen h = absurd (omega (arith, h))
 
-none_rose : (names : List (List ℕ)) → AnyRose (λ m. 0) (λ m. 0) names → ⊥
-none_rose [] rose = rose
-none_rose (n ∷ names) (inl rose) = risen rose
-none_rose (n ∷ names) (inr rose) = none_rose names rose
+none_rose : (names : List (List ℕ)) → RoseIn (Among names) (λ m. 0) (λ m. 0) → ⊥
+none_rose names rose = risen rose.2
 
 -- of no command a fault was counted
 pub quiet : (k : Command) (before after : List File) (front back : List ℕ) → IsQuiet k (holding before) (holding after) (said front) (said back)
