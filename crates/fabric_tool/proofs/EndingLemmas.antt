@@ -1,5 +1,5 @@
 -- What follows of an ending, whatever the command.
-use Rattle.std.proofs.Common.{◌⊎◌, inl, inr, IsTrue, refl}
+use Rattle.std.proofs.Common.{◌⊎◌, inl, inr, IsTrue}
 use Rattle.fab_base.specs.Seen.{Seen, SameFiles}
 use Rattle.fabric_tool.specs.Ending.{Ending, Never, Untouched, Leaves, Unread, LeavesUnread, Unwritten, LeavesUnwritten, Also, EndsBy, KeepsAllBut, ReadRose, WriteRose}
 use Rattle.fabric_tool.specs.Meaning.{Meaning}
