@@ -1,7 +1,7 @@
 -- The files of a forwarder that runs, and what writing to them keeps and leaves.
 use Rattle.std.specs.Prelude.{◌≡◌, ◌≢◌, ℕ, ◌<◌, ◌⊎◌, IsTrue, List, ◌++◌, length, Some, Result, OnOk}
 use Rattle.fab_base.specs.Ending as ending
-use Rattle.fab_base.specs.Ending.{End, end_by, Uses, HoldsSome}
+use Rattle.fab_base.specs.Ending.{End, end_by, Either, Uses, HoldsSome}
 use Rattle.fab_base.specs.Seen.{Seen, Nothing}
 use Rattle.fab_base.specs.Slots.{name_of, NameIn}
 use Rattle.run_files.specs.Outputs.{AreOutputs}
@@ -22,7 +22,7 @@ slots_of f = record { journal = f.journal; ins = f.ins.now; outs = f.outs.now }
 
 -- the names of all of them
 abbrev pub LiveNames : Seen → LiveSlots → List ℕ → Type 0
-LiveNames d f m = NameIn d f.ins m ⊎ Written d f.journal f.outs m
+LiveNames d f = Either (NameIn d f.ins) (Written d f.journal f.outs)
 
 -- open outputs, all of different names
 pub record AreLive (d : Seen) (f : LiveSlots) : Type 0 where

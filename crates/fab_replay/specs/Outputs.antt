@@ -1,6 +1,7 @@
 -- An output against the bytes that it should have, which come piece by piece.
 use Rattle.std.specs.Prelude.{◌≡◌, ◌≢◌, ℕ, ◌-◌, ◌^◌, ◌<◌, min, IsTrue, List, ◌++◌, length, take, slice_get, Option, None, Some, Result, IfOk, OnOk, OnErr}
-use Rattle.fab_base.specs.Seen.{Seen, Reads, Rose, SameReadFaults}
+use Rattle.fab_base.specs.Seen.{Seen, Reads, SameReadFaults}
+use Rattle.pcap_file.specs.Reading.{ReadsRose}
 use Rattle.fab_base.specs.declared.values.Failed.{Failed}
 use Rattle.fab_replay.specs.declared.outputs.Compared.{Compared}
 
@@ -48,12 +49,12 @@ pub record Feeds (s : ℕ) (bytes : List ℕ) (old new : Seen) (c c' : Compared)
   pub reads : Reads (old.name s) old new
   pub goes_on : OnOk result (GoesOn s bytes old new c c')
   pub part : OnErr result (GoesPart s bytes old c c')
-  pub cause : OnErr result (Rose (old.read_faults (old.name s)) (new.read_faults (old.name s)))
+  pub cause : OnErr result (ReadsRose s old new)
 
 -- The end of the wanted bytes: what the file is against all of them. It fails only where a fault of reading was counted, and else
 -- counts none.
 pub record Finishes (s : ℕ) (old new : Seen) (c : Compared) (result : Result (Option ℕ) Failed) : Type 0 where
   pub reads : Reads (old.name s) old new
   pub compared : IsTrue old.told → IfOk result (λ place. (found wanted : List ℕ) → IsRead c found (old.left s) wanted → IsCompared place found wanted)
-  pub cause : OnErr result (Rose (old.read_faults (old.name s)) (new.read_faults (old.name s)))
+  pub cause : OnErr result (ReadsRose s old new)
   pub counts : OnOk result (SameReadFaults old new)

@@ -1,7 +1,7 @@
 -- What a run over captures leaves in its files, however it ends.
 use Rattle.std.specs.Prelude.{◌≡◌, ℕ, ◌<◌, ◌⊎◌, IsTrue, List, [], length, map, Some, None, Result, Ok, Err, IsErrOf}
 use Rattle.std.specs.List.{All}
-use Rattle.fab_base.specs.Ending.{End, Write, end_by, SparesReads, SparesWrites, RoseIn}
+use Rattle.fab_base.specs.Ending.{End, Write, end_by, SparesReads, SparesWrites, Either, RoseIn}
 use Rattle.fab_base.specs.Seen.{Seen, Touches}
 use Rattle.fab_config.specs.Settings.{Settings}
 use Rattle.pcap_file.specs.declared.Budget.{Budget}
@@ -87,7 +87,7 @@ SparesFaults end old new = SparesReads end old new × SparesWrites end old new
 
 -- A run over captures.
 pub record Runs (c : Settings) (old : Start) (new : Seen) (files : FileSlots) (result : Result Done RunFault) : Type 0 where
-  pub touches : Touches (Written old.seen files.journal files.outs) (λ m. Written old.seen files.journal files.outs m ⊎ NameIn old.seen (slots_of old.ins) m) old.seen new
+  pub touches : Touches (Written old.seen files.journal files.outs) (Either (Written old.seen files.journal files.outs) (NameIn old.seen (slots_of old.ins))) old.seen new
   pub ends : IsTrue old.seen.told → Ends c old.left (opened_in old.seen old.ins) new files.journal files.outs result
   pub read : IsErrOf result fault.Read → RoseIn (NameIn old.seen (slots_of old.ins)) old.seen.read_faults new.read_faults
   pub write : IsErrOf result fault.Write → RoseIn (Written old.seen files.journal files.outs) old.seen.write_faults new.write_faults

@@ -1,6 +1,6 @@
 -- What stands between the windows of a run, and what its parts do. Of the public clauses only that of the laws cites it.
 use Rattle.std.specs.Prelude.{◌≡◌, ℕ, ◌+◌, ◌<◌, ◌≤◌, ◌^◌, ◌⊎◌, IsTrue, IfSome, List, [], ◌++◌, length, map, Option, Some, unwrap_or, Result, Ok, Err, OnOk, IfErr}
-use Rattle.fab_base.specs.Ending.{NoFaults, end_by, Uses}
+use Rattle.fab_base.specs.Ending.{NoFaults, end_by, Either, Uses}
 use Rattle.fab_base.specs.Seen.{Seen, Touches, Nothing}
 use Rattle.fab_base.specs.declared.values.Failed.{Failed}
 use Rattle.fab_config.specs.Settings.{Settings}
@@ -89,7 +89,7 @@ captures_in k = opened_in k.seen k.ins
 
 -- the names that a run may touch
 abbrev pub Touched : Task → List ℕ → Type 0
-Touched k m = Written k.seen k.journal k.outs m ⊎ NameIn k.seen (slots_of k.ins) m
+Touched k = Either (Written k.seen k.journal k.outs) (NameIn k.seen (slots_of k.ins))
 
 -- What stands of a task before a window: which records were taken, how far the captures were read, and a journal that stands for
 -- these records.

@@ -1,5 +1,5 @@
 use Rattle.std.proofs.Common.{ℕ, ◌≡◌, ◌^◌}
-use Rattle.fab_base.specs.Seen.{SameReadFaults, SameWriteFaults}
+use Rattle.fab_base.specs.Ending.{NoFaults}
 use Rattle.fab_gather.proofs.ClockLemmas.{distance}
 use Rattle.fab_gather.specs.Ports.{TakesFrom, walk_at}
 use Rattle.fab_replay.specs.Check.{Task}
@@ -15,7 +15,7 @@ invariant-windows g l =
       settings : l.fabric.settings ≡ l.fn.fabric.settings;
       count : l.fabric.count ≡ l.fn.fabric.count;
       takes : TakesFrom l.fn.ins l.ins l.fn.budget l.budget;
-      counts : SameReadFaults (seen l.fn.depot) (seen l.depot) × SameWriteFaults (seen l.fn.depot) (seen l.depot);
+      counts : NoFaults (seen l.fn.depot) (seen l.depot);
     }
 
 abbrev pub decreases-windows : goal.decreases-windows
