@@ -12,6 +12,5 @@ pub use fab_gather::LimitKind;
 pub use fab_windows::Done;
 pub use fault::LiveFault;
 pub use files::LiveFiles;
-pub use live::Live;
 pub use pcapng_file::NgWhy;
 pub use run::run_live;

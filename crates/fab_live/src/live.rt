@@ -30,13 +30,13 @@ use std::thread::Threads;
 /// and the greatest time so far, how many frames and entries there were, and the pages, which are
 /// empty between two packets.
 #[derive(Drop)]
-pub struct Live {
-    pub fabric: Fabric,
-    pub counts: Vec<u64>,
-    pub first: Option<u64>,
-    pub greatest: Moment,
-    pub done: Done,
-    pub pages: Pages,
+pub(crate) struct Live {
+    pub(crate) fabric: Fabric,
+    pub(crate) counts: Vec<u64>,
+    pub(crate) first: Option<u64>,
+    pub(crate) greatest: Moment,
+    pub(crate) done: Done,
+    pub(crate) pages: Pages,
 }
 
 impl Live {
@@ -44,7 +44,7 @@ impl Live {
     /// these send. Where memory is refused, or the packet's window lies too long after the first,
     /// nothing is written. After an error the forwarder ends: its numbers are those of the packets
     /// before, its fabric may have handled this one, and its pages may hold some of it.
-    pub fn take<R: Threads + Sync, D: Depot>(
+    pub(crate) fn take<R: Threads + Sync, D: Depot>(
         &mut self,
         rt: &R,
         alloc: Global,

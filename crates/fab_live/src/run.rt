@@ -5,7 +5,8 @@ ghost use Rattle.fab_live.specs.Files.{slots_of};
 ghost use Rattle.fab_live.specs.Live.{AreGiven, AreOpen, Running, LiveRuns, fault_of};
 
 use crate::begin::{Started, begin};
-use crate::{Done, LimitKind, Live, LiveFault, LiveFiles};
+use crate::live::Live;
+use crate::{Done, LimitKind, LiveFault, LiveFiles};
 use fab_base::{Depot, Moment};
 use fab_windows::laws_of_runs;
 use forward_core::Fabric;
@@ -16,7 +17,7 @@ use std::thread::Threads;
 
 /// Runs a new fabric over a stream of packets, whose interfaces are the ports. Behind each packet
 /// the files hold all of it: what came, the journal, and what it sends; then the next one is read.
-/// The files are empty at the start.
+/// The files are empty at the start, and the fabric is gone in the end.
 pub fn run_live<R: Threads + Sync, D: Depot>(
     rt: &R,
     alloc: Global,

@@ -4,6 +4,8 @@
 #[cfg(test)]
 mod frames;
 #[cfg(test)]
+mod limits;
+#[cfg(test)]
 mod queue;
 #[cfg(test)]
 mod ways;

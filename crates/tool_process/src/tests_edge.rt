@@ -1,7 +1,7 @@
 //! The command over real files, and with memory that is refused.
 use crate::edge::FileDepot;
 use crate::process::{status_of_process, words_of};
-use crate::same::Spot;
+use crate::same::{Spot, standard_output};
 use fab_base::{Depot, MemSink, word_at};
 use fabric_tool::Outcome;
 use std::alloc::{AllocError, AllocGlobal, Global};
@@ -58,12 +58,23 @@ fn ends<R: Threads + Wait + Sync + Files + Abort>(
     line: &[u8],
     wanted: u8,
 ) -> Result<(), Fail> {
+    ends_beside(rt, alloc, words, &Spot::Other, (line, wanted))
+}
+
+// The same where the standard output leads to this spot.
+fn ends_beside<R: Threads + Wait + Sync + Files + Abort>(
+    rt: &R,
+    alloc: Global,
+    words: &[&str],
+    printed: &Spot,
+    wanted: (&[u8], u8),
+) -> Result<(), Fail> {
     let words = words_in(alloc, words)?;
     let mut say = MemSink::new(alloc, 100)?;
-    let mut depot = FileDepot::new(rt, alloc, &words, &Spot::Other)?;
+    let mut depot = FileDepot::new(rt, alloc, &words, printed)?;
     let status = status_of_process(rt, alloc, &words, &mut depot, &mut say);
-    assert_eq!(rt; say.content(), line);
-    assert_eq!(rt; status, wanted);
+    assert_eq!(rt; say.content(), wanted.0);
+    assert_eq!(rt; status, wanted.1);
     Ok(())
 }
 
@@ -107,7 +118,7 @@ fn statuses_of_a_process(rt: HostRuntime) -> Result<(), Fail> {
 // A process that was started with these words.
 #[derive(Drop)]
 struct Started<'a> {
-    words: [&'a [u8]; 3],
+    words: &'a [&'a [u8]],
 }
 
 impl Env for Started<'_> {
@@ -131,18 +142,33 @@ impl Env for Started<'_> {
     }
 }
 
-// A word that isn't UTF-8 is no word of a command.
+// All words behind the first come, however many there are, and one that isn't UTF-8 is no word.
 #[test]
 fn words_of_a_process(rt: HostRuntime) -> Result<(), Fail> {
-    let started = Started {
-        words: [b"fcoe_tool", b"run", b"K"],
-    };
-    assert!(rt; words_of(&(started, rt.alloc())).is_ok());
-    let faulty = Started {
-        words: [b"fcoe_tool", b"run", b"\xff"],
-    };
-    let words = words_of(&(faulty, rt.alloc()));
-    assert!(rt; matches!(words, Err(Outcome::Words)));
+    let alloc = rt.alloc();
+    let mut words: Vec<&[u8]> = Vec::new(alloc);
+    for _ in 0..200 {
+        words.push(b"K")?;
+    }
+    let started = Started { words: &words };
+    let told = words_of(&(started, alloc)).ok().ok_or("words")?;
+    assert_eq!(rt; told.len(), 199);
+    words.push(b"\xff")?;
+    let faulty = Started { words: &words };
+    let told = words_of(&(faulty, alloc));
+    assert!(rt; matches!(told, Err(Outcome::Words)));
+    Ok(())
+}
+
+// What a command prints goes where this test's own output goes, and no file of the command may.
+#[test]
+fn the_standard_output_is_no_output(rt: HostRuntime) -> Result<(), Fail> {
+    fs::write(&rt, "PLAIN", &CONFIG)?;
+    fs::write(&rt, "HEARD", &REQUEST)?;
+    let words = ["run", "PLAIN", "UNMADE", "HEARD", "/dev/stdout"];
+    let printed = standard_output(&rt);
+    ends_beside(&rt, rt.alloc(), &words, &printed, (b"write fault\n", 4))?;
+    assert!(rt; !fs::exists(&rt, "UNMADE")?);
     Ok(())
 }
 
