@@ -1,4 +1,7 @@
 //! A limit that is too large for a case, tried small.
+ghost use Rattle.std.specs.Prelude.{IsTrue};
+ghost use Rattle.snoop_run.specs.Sides.{AreDifferent};
+
 use fab_base::{MemDepot, word_at};
 use fab_config::read_config;
 use pcap_file::{Budget, LimitKind};
@@ -9,6 +12,13 @@ use std::test::Fail;
 const HEAD: [u8; 24] = [
     0xd4, 0xc3, 0xb2, 0xa1, 2, 0, 4, 0, 0, 0, 0, 0, 0, 0, 0, 0, 255, 255, 0, 0, 1, 0, 0, 0,
 ];
+
+// Whether these are two different names.
+fn are_two(sides: &[String]) -> bool
+    ensures { IsTrue result → AreDifferent sides.now }
+{
+    sides.len() == 2 && word_at(sides, 0) != word_at(sides, 1)
+}
 
 // The capture of the forwarder's port alone is past the limit.
 #[test]
@@ -25,8 +35,8 @@ fn captures_past_the_limit_on_bytes_are_not_taken(rt: HostRuntime) -> Result<(),
         sides.push(String::from_str(alloc, word)?)?;
     }
     assert!(rt; depot.knows_all(&sides));
+    assert!(rt; are_two(&sides));
     assert_eq!(rt; sides.len(), 2);
-    assert!(rt; word_at(&sides, 0) != word_at(&sides, 1));
     let short = Budget {
         bytes: 23,
         frames: 1,
