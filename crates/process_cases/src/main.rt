@@ -1,4 +1,4 @@
-//! The process once more, over words of two ports and with a status that isn't 0.
+//! The process once more, over words of 64 ports and with a status that isn't 0.
 #![tactic(auto)]
 
 use std::process::ExitCode;
