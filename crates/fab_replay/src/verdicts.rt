@@ -24,8 +24,8 @@ pub enum Misjudged {
 }
 
 /// Has a fabric take a frame of a port, the one of that index, with the verdict that was found, if
-/// that is right: a grant may be of any address that is free. Where it is wrong the fabric has taken
-/// the frame with the verdict that was made; where memory is refused nothing has changed.
+/// that is right: a grant may be of any free address. Where it is wrong the fabric has taken the
+/// frame with the verdict that was made; where memory is refused nothing has changed.
 pub fn step_as(
     alloc: Global,
     fabric: &mut Fabric,
