@@ -1,5 +1,5 @@
 -- What a run over captures leaves in its files, however it ends.
-use Rattle.std.specs.Prelude.{◌≡◌, ℕ, ◌<◌, ◌⊎◌, IsTrue, List, [], length, map, Some, None, Result, Ok, Err, IsErrOf}
+use Rattle.std.specs.Prelude.{◌≡◌, ℕ, ◌<◌, IsTrue, List, [], length, map, Some, None, Result, Ok, Err, IsErrOf}
 use Rattle.std.specs.List.{All}
 use Rattle.fab_base.specs.Ending.{End, Write, end_by, SparesReads, SparesWrites, Either, RoseIn}
 use Rattle.fab_base.specs.Seen.{Seen, Touches}

@@ -21,7 +21,6 @@ use std::mem;
 use zone_rules::Zones;
 
 /// A forwarder of some ports.
-#[derive(Drop)]
 pub struct Fabric {
     pub(crate) config: Config,
     pub(crate) ports: u32,
@@ -38,6 +37,26 @@ pub struct Fabric {
     pub(crate) handed_outs: usize,
     /// For empty lists, which take no memory.
     pub(crate) alloc: Global,
+}
+
+impl Drop for Fabric {
+    // Written by hand, so that a fabric is dropped by one call wherever it is owned: a derived drop
+    // stands there field by field, and is proved there.
+    fn drop(self) {
+        let Fabric {
+            config: _config,
+            ports: _,
+            zones: _zones,
+            roster: _roster,
+            advertised: _,
+            rscns: _,
+            events: _events,
+            outs: _outs,
+            handed_events: _,
+            handed_outs: _,
+            alloc: _,
+        } = self;
+    }
 }
 
 impl Model for Fabric {

@@ -31,9 +31,6 @@ returns-in_err-run g c =
       takes = c.in_err-run.ensures.takes;
     }
 
-pub same-fabric : goal.same-fabric
-same-fabric g c = refl
-
 pub windows-init : goal.windows-init
 windows-init g c =
     let seen = g.D.Depot.seen in
@@ -50,9 +47,6 @@ windows-init g c =
       pages = c.in_ok-run.ensures.pages;
       takes = c.in_ok-run.ensures.takes;
     }
-
-pub same-fabric-in-Some : goal.same-fabric-in-Some
-same-fabric-in-Some g c = refl
 
 pub run_window-requires-clause-going : goal.run_window-requires-clause-going
 run_window-requires-clause-going g c = λ κs within.
