@@ -1,12 +1,15 @@
 //! Frames: one step each.
 ghost use Rattle.std.specs.Prelude.{◌≡◌, ℕ, ◌∷◌, IfOk, OnOk, OnErr, IsErrOf, IsSome, Some};
+ghost use Rattle.fab_judge.specs.Judged.{judgement_of, Grounds, HasValues};
 ghost use Rattle.fab_policy.specs.Journal.{Journal};
 ghost use Rattle.fab_policy.specs.Legal.{Legal};
 ghost use Rattle.fab_policy.specs.Ranged.{IsRangedVerdict};
 ghost use Rattle.fab_policy.specs.Standing.{Stands, Takes};
+ghost use Rattle.fab_policy.specs.Verdicts as policy;
 ghost use Rattle.fab_policy.specs.Verdicts.{IsRight};
 ghost use Rattle.fab_policy.specs.declared.event.Event.TheVariants.{Frame};
 ghost use Rattle.fab_policy.specs.declared.verdict.Verdict.TheVariants.{Granted};
+ghost use Rattle.forward_core.specs.Arrived.{caught_of, entry_of};
 ghost use Rattle.forward_core.specs.Fabric.{IsTaken};
 
 use crate::Fabric;
@@ -84,26 +87,54 @@ impl Fabric {
             return Err(StepFault::Memory);
         };
         let arrived = Arrived { port, index, heard };
+        self.take(alloc, &arrived, &judged, wish)
+    }
+
+    // Carries out what was judged, and answers its verdict.
+    fn take(
+        &mut self,
+        alloc: Global,
+        arrived: &Arrived<'_>,
+        judged: &Judged<'_>,
+        wish: Option<FcId>,
+    ) -> Result<Verdict, StepFault>
+        requires clock { IsSome self.old.state.tables.clock }
+        requires judged { judgement_of judged.now ≡ policy.judged self.old.settings
+            self.old.state.tables arrived.now.port (caught_of arrived.now) }
+        requires grounds { Grounds self.old.settings self.old.state.tables arrived.now.port
+            (caught_of arrived.now) judged.now }
+        requires values { HasValues arrived.now.port (caught_of arrived.now) judged.now }
+        ensures right { IfOk result (λ v. IsRight self.old.settings self.old.state.tables
+            arrived.now.port (caught_of arrived.now) v) }
+        ensures takes { IfOk result (λ v. Takes self.old (entry_of arrived.now v) self.new) }
+        ensures ranged { IfOk result IsRangedVerdict }
+        ensures wished { IfOk result (λ v. (a b : ℕ) → wish ≡ Some a → v ≡ Granted b → b ≡ a) }
+        ensures taken { IsErrOf result StepFault.WishTaken → IsTaken self.old.settings
+            self.old.state.tables arrived.now.port (caught_of arrived.now) wish }
+        ensures granted { OnOk result (IsTaken self.old.settings self.old.state.tables
+            arrived.now.port (caught_of arrived.now) wish → ⊥) }
+        ensures err { OnErr result (self.new ≡ self.old) }
+    {
         match judged {
             Judged::Must(verdict) => {
-                self.settle(alloc, &arrived, &verdict)?;
+                self.settle(alloc, arrived, verdict)?;
                 Ok(ranged(verdict.verdict()))
             }
             Judged::Replied { verdict, to } => {
-                self.reply(alloc, &arrived, &verdict, to)?;
+                self.reply(alloc, arrived, verdict, *to)?;
                 Ok(ranged(verdict.verdict()))
             }
             Judged::MayGrant(login) => {
                 let address = self.address_for(&login.request, login.free, wish)?;
-                self.log_in(alloc, &arrived, &login, address)?;
+                self.log_in(alloc, arrived, login, address)?;
                 Ok(Verdict::Granted(address))
             }
             Judged::Registers { to, ask } => {
-                self.register(alloc, &arrived, to, &ask)?;
+                self.register(alloc, arrived, *to, ask)?;
                 Ok(Verdict::Registered)
             }
             Judged::Answers { to, tell, size } => {
-                self.answer(alloc, &arrived, to, &tell, size)?;
+                self.answer(alloc, arrived, *to, tell, *size)?;
                 Ok(Verdict::Answered)
             }
         }
