@@ -84,29 +84,6 @@ pub(crate) fn say_types(types: &TypeMap, out: &mut Vec<u8>) -> Result<(), AllocE
 // Writes a request as it was read. What no writer takes is left out.
 fn write(alloc: Global, ask: &CtAsk<'_>, made: &mut Vec<u8>) -> Result<(), NoMemory> {
     match *ask {
-        CtAsk::NextOf(address) => write_ask(alloc, &CtAsk::NextOf(address), made),
-        CtAsk::PortNameOf(address) => write_ask(alloc, &CtAsk::PortNameOf(address), made),
-        CtAsk::NodeNameOf(address) => write_ask(alloc, &CtAsk::NodeNameOf(address), made),
-        CtAsk::TypesOf(address) => write_ask(alloc, &CtAsk::TypesOf(address), made),
-        CtAsk::FeaturesOf(address) => write_ask(alloc, &CtAsk::FeaturesOf(address), made),
-        CtAsk::ByPortName(name) => write_ask(alloc, &CtAsk::ByPortName(name), made),
-        CtAsk::Erase(address) => write_ask(alloc, &CtAsk::Erase(address), made),
-        _ => write_other(alloc, ask, made),
-    }
-}
-
-fn write_other(alloc: Global, ask: &CtAsk<'_>, made: &mut Vec<u8>) -> Result<(), NoMemory> {
-    match *ask {
-        CtAsk::AddressesOfType(kind) => write_ask(alloc, &CtAsk::AddressesOfType(kind), made),
-        CtAsk::PortNamesOfType(kind) => write_ask(alloc, &CtAsk::PortNamesOfType(kind), made),
-        CtAsk::NodeNamesOfType(kind) => write_ask(alloc, &CtAsk::NodeNamesOfType(kind), made),
-        CtAsk::AddressesOfPortType(kind) => {
-            write_ask(alloc, &CtAsk::AddressesOfPortType(kind), made)
-        }
-        CtAsk::SetNode(address, name) => write_ask(alloc, &CtAsk::SetNode(address, name), made),
-        CtAsk::SetTypes(address, types) => {
-            write_ask(alloc, &CtAsk::SetTypes(address, types), made)
-        }
         CtAsk::SetSymbol(address, symbol) => write_symbol(alloc, address, symbol, made),
         CtAsk::SetNodeSymbol(name, symbol) => write_node_symbol(alloc, name, symbol, made),
         CtAsk::SetFeature {
@@ -114,7 +91,8 @@ fn write_other(alloc: Global, ask: &CtAsk<'_>, made: &mut Vec<u8>) -> Result<(),
             feature,
             kind,
         } => { write_feature(alloc, address, feature, kind, made) }
-        _ => Ok(()),
+        CtAsk::Unknown(_) => Ok(()),
+        _ => write_ask(alloc, ask, made),
     }
 }
 

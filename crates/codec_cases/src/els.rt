@@ -66,22 +66,9 @@ fn say_offers(parms: &LoginParms, out: &mut Vec<u8>) -> Result<(), AllocError> {
 
 // Writes a payload as it was read. What no writer takes is left out.
 fn write(alloc: Global, els: &Els<'_>, made: &mut Vec<u8>) -> Result<(), NoMemory> {
-    match *els {
-        Els::Accept => write_els(alloc, &Els::Accept, made),
-        Els::Logo { address, name } => write_els(alloc, &Els::Logo { address, name }, made),
-        Els::Scr { function } => write_els(alloc, &Els::Scr { function }, made),
-        Els::Reject {
-            reason,
-            explanation,
-        } => {
-            write_els(
-                alloc,
-                &Els::Reject {
-                    reason,
-                    explanation,
-                },
-                made,
-            )
+    match els {
+        Els::Accept | Els::Logo { .. } | Els::Scr { .. } | Els::Reject { .. } => {
+            write_els(alloc, els, made)
         }
         Els::Rscn { pages } => write_pages(alloc, pages, made),
         _ => write_login(alloc, els, made),
@@ -96,13 +83,9 @@ fn write_pages(alloc: Global, pages: &[u8], made: &mut Vec<u8>) -> Result<(), No
 }
 
 fn write_login(alloc: Global, els: &Els<'_>, made: &mut Vec<u8>) -> Result<(), NoMemory> {
-    match *els {
-        Els::Flogi(parms) if parms.size < 4096 => write_els(alloc, &Els::Flogi(parms), made),
-        Els::Fdisc(parms) if parms.size < 4096 => write_els(alloc, &Els::Fdisc(parms), made),
-        Els::Plogi(parms) if parms.size < 4096 => write_els(alloc, &Els::Plogi(parms), made),
-        Els::LoginAccept(parms) if parms.size < 4096 => {
-            write_els(alloc, &Els::LoginAccept(parms), made)
-        }
+    match els {
+        Els::Flogi(parms) | Els::Fdisc(parms) | Els::Plogi(parms) | Els::LoginAccept(parms)
+            if parms.size < 4096 => write_els(alloc, els, made),
         _ => Ok(()),
     }
 }

@@ -19,9 +19,9 @@ pub(crate) fn tell(alloc: Global, line: &[u8], out: &mut Vec<u8>) -> Result<(), 
 fn tell_of(alloc: Global, line: &[u8], out: &mut Vec<u8>) -> Result<(), NoMemory> {
     match word_at(line, 1) {
         b"done" => say(alloc, &CtTell::Done, out),
-        b"port" => say(alloc, &CtTell::Port(address(alloc, line, 2)?), out),
-        b"name" => say(alloc, &CtTell::Name(name(alloc, line, 2)?), out),
-        b"types" => say(alloc, &CtTell::Types(types(alloc, line, 2)?), out),
+        b"port" => say_address(alloc, line, out),
+        b"name" => say_name(alloc, line, out),
+        b"types" => say_types(alloc, line, out),
         b"features" => say_features(alloc, line, out),
         b"addresses" => say_addresses(alloc, line, out),
         b"names" => say_names(alloc, line, out),
@@ -86,6 +86,21 @@ fn say(alloc: Global, tell: &CtTell, out: &mut Vec<u8>) -> Result<(), NoMemory>
     Ok(())
 }
 
+fn say_address(alloc: Global, line: &[u8], out: &mut Vec<u8>) -> Result<(), NoMemory> {
+    let address = address(alloc, line, 2)?;
+    say(alloc, &CtTell::Port(address), out)
+}
+
+fn say_name(alloc: Global, line: &[u8], out: &mut Vec<u8>) -> Result<(), NoMemory> {
+    let name = name(alloc, line, 2)?;
+    say(alloc, &CtTell::Name(name), out)
+}
+
+fn say_types(alloc: Global, line: &[u8], out: &mut Vec<u8>) -> Result<(), NoMemory> {
+    let types = types(alloc, line, 2)?;
+    say(alloc, &CtTell::Types(types), out)
+}
+
 // The map in an answer, and the features that it says.
 fn say_features(alloc: Global, line: &[u8], out: &mut Vec<u8>) -> Result<(), NoMemory> {
     let map = features(alloc, line, 2);
@@ -120,15 +135,26 @@ fn say_addresses(alloc: Global, line: &[u8], out: &mut Vec<u8>) -> Result<(), No
 // Two addresses with their names.
 fn say_names(alloc: Global, line: &[u8], out: &mut Vec<u8>) -> Result<(), NoMemory> {
     let mut list = NamedList::new(alloc)?;
-    for index in [2, 4] {
-        let address = address(alloc, line, index)?;
-        let name = name(alloc, line, index + 1)?;
-        list.push(alloc, Named { address, name })?;
-    }
+    push_named(alloc, line, 2, &mut list)?;
+    push_named(alloc, line, 4, &mut list)?;
     if list.len() == 0 {
         return Ok(());
     }
     say(alloc, &CtTell::Names(list), out)
+}
+
+// The address in a word, with the name in the word behind it.
+fn push_named(
+    alloc: Global,
+    line: &[u8],
+    index: usize,
+    list: &mut NamedList,
+) -> Result<(), NoMemory>
+    requires { index ≤ 4 }
+{
+    let address = address(alloc, line, index)?;
+    let name = name(alloc, line, index + 1)?;
+    list.push(alloc, Named { address, name })
 }
 
 // A symbol: at most 255 bytes.
