@@ -14,7 +14,8 @@ use Rattle.fab_policy.specs.declared.event.Event.{Event}
 use Rattle.fab_gather.specs.Laws.{AllIn, HasSome}
 use Rattle.fab_gather.specs.Port.{AreIn}
 use Rattle.fab_shared.specs.Handled.{HandledPort, HoldBatches, Handled}
-use Rattle.fab_live.specs.Arriving.{arrive, arrived, greatest_of, of_face, recorded, port_records, records_of}
+use Rattle.pcapng_file.specs.Classic.{recorded}
+use Rattle.fab_live.specs.Arriving.{arrive, arrived, greatest_of, of_face, port_records, records_of}
 
 -- ---- one packet more
 

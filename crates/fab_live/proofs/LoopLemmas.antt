@@ -1,5 +1,5 @@
 -- What stands behind each packet of a stream, and at its end.
-use Rattle.std.proofs.Common.{◌≡◌, ℕ, zero, suc, ◌+◌, ◌-◌, ◌<◌, ◌≤◌, ◌^◌, inl, inr, List, [], ◌∷◌, ◌++◌, length, length-append, Option, Some, None, Ok, Err, IsTrue, refl, sym, ◌∙◌, subst, arith}
+use Rattle.std.proofs.Common.{◌≡◌, ℕ, zero, suc, ◌+◌, ◌<◌, ◌≤◌, ◌^◌, inl, inr, List, [], ◌∷◌, ◌++◌, length, length-append, Option, Some, None, Ok, Err, IsTrue, refl, sym, ◌∙◌, subst, arith}
 use Rattle.std.specs.Prelude.{Result}
 use Rattle.fab_base.specs.Ending.{End, Said, end_by, CountsRead, Either, Uses, IsSaid}
 use Rattle.fab_base.specs.Seen.{Seen, Only, Nothing, Touches}
@@ -13,7 +13,7 @@ use Rattle.pcapng_file.specs.declared.fault.NgError.TheVariants as errors
 use Rattle.pcapng_file.specs.declared.fault.NgLimit.TheVariants as ng_limits
 use Rattle.pcapng_file.specs.File.{before_all, ng_end, IsPacketKept}
 use Rattle.pcapng_file.proofs.StreamedLemmas.{parts_long, streamed_none, streamed_stays, streamed_more, streamed_end, streamed_stops}
-use Rattle.pcapng_file.specs.Stream.{Streaming, streaming, StreamStand, StreamReads, Streamed, stream_stand}
+use Rattle.pcapng_file.specs.Stream.{Streaming, streaming, StreamStand, StreamReads, Streamed, Stops, stream_stand}
 use Rattle.fab_policy.specs.Journal.{Journal}
 use Rattle.run_files.specs.Faults.{IsUnwritten}
 use Rattle.run_files.proofs.OutputLemmas.{stays_named, same_name}
@@ -24,7 +24,7 @@ use Rattle.fab_live.specs.declared.live.Live.{Live}
 use Rattle.fab_live.specs.declared.fault.LiveFault.{LiveFault}
 use Rattle.fab_live.specs.declared.fault.LiveFault.TheVariants as fault
 use Rattle.fab_live.specs.Files.{LiveSlots, LiveNames, live_end}
-use Rattle.fab_live.specs.Live.{AreGiven, AreOpen, StartsFiles, Running, HoldLive, LeftWhole, LeftBroken, LeavesPacket, LiveEnds, LiveFinished, LiveRuns, Begins, BeginsWithin, Stops, fault_of}
+use Rattle.fab_live.specs.Live.{AreGiven, AreOpen, StartsFiles, Running, HoldLive, LeftWhole, LeftBroken, LeavesPacket, LiveEnds, LiveFinished, LiveRuns, Begins, BeginsWithin, fault_of}
 use Rattle.fab_live.proofs.RunningLemmas.{left_whole, entries_there}
 use Rattle.fab_live.proofs.WriteLemmas.{moved, in_before, written_before, live_stays}
 
@@ -165,19 +165,7 @@ module _ (c : Settings) (f : LiveSlots) (stream : ℕ) (budget : Budget) (start 
 
   module _ (e : NgError) (r : StreamReads stream (stream_stand p d) (stream_stand p' d') (Err e)) where
     stopped : IsSaid (ng_end e) → IsTrue start.told → Stops g.packets (start.left stream) budget e
-    stopped said told =
-        let s = streamed_stops stream start d d' budget p p' g.packets g.streamed (told_d (Err e) r) e r told said in
-        let short = parts_long s.begins.0 before_all g.packets (start.left stream) s.section s.rest s.begins.1 in
-        record {
-          section = s.section;
-          rest = s.rest;
-          at = length (start.left stream) - length s.rest;
-          begins = s.begins;
-          place = omega (arith, short);
-          bytes = s.bytes;
-          count = s.frames;
-          step = s.step;
-        }
+    stopped said told = streamed_stops stream start d d' budget p p' g.packets g.streamed (told_d (Err e) r) e r told said
 
     -- which fault it is
     ends_by : (x : LiveFault) → (IsTrue start.told → LiveEnds c budget f (start.left stream) d' (Err x)) → CountsRead (d.name stream) (live_end x) d d' → LiveRuns c budget stream f start d' (Err x)
@@ -223,23 +211,21 @@ module _ (c : Settings) (f : LiveSlots) (stream : ℕ) (budget : Budget) (start 
     begins_within told = record {
       section = p'.here.section;
       rest = p'.held ++ d'.left stream;
-      at = p'.here.at;
       begins = streamed'.begins told;
-      place = streamed'.place told;
-      bytes = let e = streamed'.bytes in omega (arith, e);
-      count = let e = streamed'.frames in omega (arith, e);
+      bytes = let e = streamed'.bytes in let there = streamed'.place told in omega (arith, e, there);
+      frames = let e = streamed'.frames in omega (arith, e);
     }
 
     pub no_port : length f.outs ≤ x.face → LiveRuns c budget stream f start d' (Err (fault.Port x.face))
     no_port le = record {
       uses = there;
-      ends = λ told. (g.packets, begins_here (Ok (Some x)) r told, x, begins_within told, refl, le, left (Ok (Some x)) r);
+      ends = λ told. (g.packets, (begins_here (Ok (Some x)) r told, x, begins_within told, refl, le), left (Ok (Some x)) r);
     }
 
     refused_ends : x.face < length f.outs → (d'' : Seen) (e : LiveFault) → LeavesPacket c f g.packets x d'' e → IsTrue start.told → LiveEnds c budget f (start.left stream) d'' (Err e)
     refused_ends face d'' fault.Write left told = (g.packets ++ x ∷ [], begins_there told, left)
     refused_ends face d'' fault.Memory left told = (g.packets, begins_here (Ok (Some x)) r told, inl left)
-    refused_ends face d'' (fault.Limit limits.Span) left told = (g.packets, begins_here (Ok (Some x)) r told, x, begins_within told, face, left.1, left.0)
+    refused_ends face d'' (fault.Limit limits.Span) left told = (g.packets, (begins_here (Ok (Some x)) r told, x, begins_within told, face, left.1), left.0)
     refused_ends face d'' (fault.Limit limits.Bytes) left told = absurd left
     refused_ends face d'' (fault.Limit limits.Frames) left told = absurd left
     refused_ends face d'' (fault.Block at why) left told = absurd left

@@ -21,7 +21,8 @@ use Rattle.fab_windows.specs.Turns.{Laws}
 use Rattle.fab_windows.specs.Window.{AreTicksTo}
 use Rattle.fab_windows.proofs.CountLemmas.{frames-followed, length-followed}
 use Rattle.fab_windows.proofs.SentLemmas.{NotAfter, outs_are, outs_early, early, clock_is}
-use Rattle.fab_live.specs.Arriving.{arrive, arrived, greatest_of, recorded, port_records, records_of}
+use Rattle.pcapng_file.specs.Classic.{recorded}
+use Rattle.fab_live.specs.Arriving.{arrive, arrived, greatest_of, port_records, records_of}
 use Rattle.fab_live.specs.Handling.{HandlesOne}
 use Rattle.fab_live.proofs.ArrivingLemmas.{arrived-append, records_of-append, length-records_of, all_in_one, has_some_one, handled_one}
 

@@ -7,7 +7,7 @@ use Rattle.fab_base.specs.Seen.{Seen}
 use Rattle.fab_config.specs.Settings.{Settings}
 use Rattle.pcap_file.specs.declared.Record.{Record}
 use Rattle.pcapng_file.specs.declared.NgRecord.{NgRecord}
-use Rattle.pcapng_file.specs.Classic.{classic_record, classic_bytes}
+use Rattle.pcapng_file.specs.Classic.{classic_record, classic_bytes, recorded}
 use Rattle.pcapng_file.specs.File.{IsPacketKept}
 use Rattle.fab_policy.specs.Growing.{lines_from, records_to}
 use Rattle.fab_policy.specs.Journal.{Journal, followed, frame_count, clock}
@@ -32,7 +32,7 @@ use Rattle.fab_live.specs.declared.live.Live.{Live}
 use Rattle.fab_windows.specs.declared.pages.Pages.{Pages}
 use Rattle.fab_live.specs.declared.fault.LiveFault.{LiveFault}
 use Rattle.fab_live.specs.declared.fault.LiveFault.TheVariants as fault
-use Rattle.fab_live.specs.Arriving.{arrive, arrived, greatest_of, of_face, recorded, records_of, AllFaces}
+use Rattle.fab_live.specs.Arriving.{arrive, arrived, greatest_of, of_face, records_of, AllFaces}
 use Rattle.fab_live.specs.Files.{LiveSlots, GrowsAt, WritesPacket}
 use Rattle.fab_live.specs.Handling.{HandlesOne}
 use Rattle.fab_live.specs.Live.{Running, LeftWhole, LeftBroken, LeavesPacket, reach}

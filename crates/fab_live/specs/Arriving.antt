@@ -6,6 +6,7 @@ use Rattle.fab_base.specs.Counting.{counting}
 use Rattle.fab_gather.specs.Looks.{is_too_late}
 use Rattle.pcap_file.specs.declared.Record.{Record}
 use Rattle.pcapng_file.specs.declared.NgRecord.{NgRecord}
+use Rattle.pcapng_file.specs.Classic.{recorded}
 
 -- a packet as it's taken behind others: at the greatest moment so far, where its own is earlier
 abbrev pub arrive : ℕ → NgRecord → NgRecord
@@ -24,10 +25,6 @@ greatest_of before (r ∷ packets) = greatest_of (max before r.moment) packets
 -- those of the interface of a number
 abbrev pub of_face : ℕ → List NgRecord → List NgRecord
 of_face q packets = filter (λ r. r.face == q) packets
-
--- packets as records
-abbrev pub recorded : NgRecord → Record
-recorded r = record { moment = r.moment; caught = r.caught }
 
 -- the records of a port, counted from 0, and those of n ports
 abbrev pub port_records : List NgRecord → ℕ → List Record

@@ -8,12 +8,14 @@ use Rattle.pcapng_file.specs.declared.NgRecord.{NgRecord}
 use Rattle.pcapng_file.specs.declared.fault.NgError.{NgError}
 use Rattle.pcapng_file.specs.declared.fault.NgError.TheVariants as errors
 use Rattle.pcapng_file.specs.declared.fault.NgLimit.TheVariants as ng_limits
+use Rattle.pcapng_file.specs.declared.fault.NgWhy.{NgWhy}
 use Rattle.pcapng_file.specs.Classic.{classic_bytes}
-use Rattle.pcapng_file.specs.File.{AreKept, IsNg, Section, step_of}
-use Rattle.pcapng_file.specs.Stream.{BeginsWith}
+use Rattle.pcapng_file.specs.File.{AreKept, IsNg, Section}
+use Rattle.pcapng_file.specs.Stream.{BeginsWith, Stops}
 use Rattle.fab_policy.specs.Journal.{Journal, frame_count}
 use Rattle.fab_policy.specs.Legal.{window_start}
 use Rattle.fab_policy.specs.Standing.{Contents}
+use Rattle.pcap_file.specs.declared.fault.LimitKind.{LimitKind}
 use Rattle.pcap_file.specs.declared.fault.LimitKind.TheVariants as limits
 use Rattle.run_files.specs.Faults.{IsUnwritten}
 use Rattle.fab_windows.specs.declared.Done.{Done}
@@ -143,27 +145,23 @@ Begins packets stream = (s : Section) × (rest : List ℕ) × BeginsWith packets
 pub record BeginsWithin (packets : List NgRecord) (stream : List ℕ) (budget : Budget) : Type 0 where
   pub section : Section
   pub rest : List ℕ
-  pub at : ℕ
   pub begins : BeginsWith packets stream section rest
-  pub place : at + length rest ≡ length stream
-  pub bytes : at ≤ budget.bytes
-  pub count : length packets ≤ budget.frames
+  pub bytes : length stream - length rest ≤ budget.bytes
+  pub frames : length packets ≤ budget.frames
 
--- what is left of the limits behind so many bytes and packets
-abbrev pub left_behind : Budget → ℕ → ℕ → Budget
-left_behind budget bytes frames = record { bytes = budget.bytes - bytes; frames = budget.frames - frames }
+-- why nothing more is taken behind some packets: a block has a fault; the next packet is of an interface that is none of n ports; a limit
+-- is passed, which may be by a packet
+abbrev pub IsFaulty : Budget → ℕ → NgWhy → List NgRecord → List ℕ → Type 0
+IsFaulty budget at why packets stream = Stops packets stream budget (errors.Fault at why)
 
--- Behind them the stream has this fault, or passes this limit, in the block that begins at some byte: what came before it is within the
--- limits.
-pub record Stops (packets : List NgRecord) (stream : List ℕ) (budget : Budget) (e : NgError) : Type 0 where
-  pub section : Section
-  pub rest : List ℕ
-  pub at : ℕ
-  pub begins : BeginsWith packets stream section rest
-  pub place : at + length rest ≡ length stream
-  pub bytes : at ≤ budget.bytes
-  pub count : length packets ≤ budget.frames
-  pub step : step_of (left_behind budget at (length packets)) at section rest ≡ Err e
+abbrev pub IsNoPort : Budget → ℕ → ℕ → List NgRecord → List ℕ → Type 0
+IsNoPort budget n face packets stream = Begins packets stream × (r : NgRecord) × BeginsWithin (packets ++ r ∷ []) stream budget × (r.face ≡ face) × (n ≤ face)
+
+abbrev pub IsPast : Settings → Budget → ℕ → LimitKind → List NgRecord → List ℕ → Type 0
+IsPast c budget n limits.Bytes packets stream = Stops packets stream budget (errors.Limit ng_limits.Bytes)
+IsPast c budget n limits.Frames packets stream = Stops packets stream budget (errors.Limit ng_limits.Frames)
+IsPast c budget n limits.Span packets stream =
+    Begins packets stream × (r : NgRecord) × BeginsWithin (packets ++ r ∷ []) stream budget × (r.face < n) × (¬ IsInSpan c (arrived 0 (packets ++ r ∷ [])))
 
 -- A stream to its end.
 pub record LiveFinished (c : Settings) (budget : Budget) (f : LiveSlots) (stream : List ℕ) (d : Seen) (done : Done) : Type 0 where
@@ -179,13 +177,9 @@ pub record LiveFinished (c : Settings) (budget : Budget) (f : LiveSlots) (stream
 -- The files hold the packets of the stream up to its end, or up to a fault; or beginnings of some packets.
 abbrev pub LiveEnds : Settings → Budget → LiveSlots → List ℕ → Seen → Result Done LiveFault → Type 0
 LiveEnds c budget f stream d (Ok done) = LiveFinished c budget f stream d done
-LiveEnds c budget f stream d (Err (fault.Block at why)) = (packets : List NgRecord) × Stops packets stream budget (errors.Fault at why) × LeftWhole c d f packets
-LiveEnds c budget f stream d (Err (fault.Limit limits.Bytes)) = (packets : List NgRecord) × Stops packets stream budget (errors.Limit ng_limits.Bytes) × LeftWhole c d f packets
-LiveEnds c budget f stream d (Err (fault.Limit limits.Frames)) = (packets : List NgRecord) × Stops packets stream budget (errors.Limit ng_limits.Frames) × LeftWhole c d f packets
-LiveEnds c budget f stream d (Err (fault.Limit limits.Span)) =
-    (packets : List NgRecord) × Begins packets stream × (r : NgRecord) × BeginsWithin (packets ++ r ∷ []) stream budget × (r.face < length f.outs) × (¬ IsInSpan c (arrived 0 (packets ++ r ∷ []))) × LeftWhole c d f packets
-LiveEnds c budget f stream d (Err (fault.Port face)) =
-    (packets : List NgRecord) × Begins packets stream × (r : NgRecord) × BeginsWithin (packets ++ r ∷ []) stream budget × (r.face ≡ face) × (length f.outs ≤ face) × LeftWhole c d f packets
+LiveEnds c budget f stream d (Err (fault.Block at why)) = (packets : List NgRecord) × IsFaulty budget at why packets stream × LeftWhole c d f packets
+LiveEnds c budget f stream d (Err (fault.Limit kind)) = (packets : List NgRecord) × IsPast c budget (length f.outs) kind packets stream × LeftWhole c d f packets
+LiveEnds c budget f stream d (Err (fault.Port face)) = (packets : List NgRecord) × IsNoPort budget (length f.outs) face packets stream × LeftWhole c d f packets
 LiveEnds c budget f stream d (Err fault.Read) = (packets : List NgRecord) × Begins packets stream × LeftWhole c d f packets
 LiveEnds c budget f stream d (Err fault.Write) = (packets : List NgRecord) × Begins packets stream × LeftBroken c d f packets
 LiveEnds c budget f stream d (Err fault.Memory) = (packets : List NgRecord) × Begins packets stream × LeftRefused c d f packets

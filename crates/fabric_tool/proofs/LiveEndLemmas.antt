@@ -6,10 +6,11 @@ use Rattle.pcapng_file.specs.declared.NgRecord.{NgRecord}
 use Rattle.pcapng_file.specs.declared.fault.NgWhy.{NgWhy}
 use Rattle.pcap_file.specs.declared.fault.LimitKind.{LimitKind}
 use Rattle.pcap_file.specs.declared.fault.LimitKind.TheVariants as kinds
+use Rattle.fab_live.specs.Live.{IsFaulty, IsNoPort, IsPast}
 use Rattle.fabric_tool.specs.Command.{LiveWords, by_port, Live}
 use Rattle.fabric_tool.specs.Ends.{TakesMemory, Holds}
 use Rattle.fabric_tool.specs.Inputs.{LIMITS}
-use Rattle.fabric_tool.specs.Living.{session_of, all_came, HasLived, HasHalted, HasLiveFront, IsBegun, IsFaulty, IsNoPort, IsPast, IsLiveRefused, live_ending}
+use Rattle.fabric_tool.specs.Living.{session_of, all_came, HasLived, HasHalted, HasLiveFront, IsBegun, IsLiveRefused, live_ending}
 use Rattle.fabric_tool.specs.declared.outcome.Outcome.{Outcome}
 use Rattle.fabric_tool.specs.declared.outcome.Outcome.TheVariants as ends
 use Rattle.fabric_tool.proofs.EndingLemmas.{Left}
@@ -41,16 +42,16 @@ module _ (k : LiveWords) (old new : Seen) where
       }
 
   -- a stream with a fault, with a packet of no port, and one past a limit begins with the packets before it
-  stream_begun : (at : ℕ) (why : NgWhy) → HasHalted k (IsFaulty at why) old new → HasHalted k IsBegun old new
-  stream_begun at why = all_begun (IsFaulty at why) (λ c packets bytes w. begins_stop packets bytes LIMITS _ w)
+  stream_begun : (at : ℕ) (why : NgWhy) → HasHalted k (λ c. IsFaulty LIMITS at why) old new → HasHalted k IsBegun old new
+  stream_begun at why = all_begun (λ c. IsFaulty LIMITS at why) (λ c packets bytes w. begins_stop packets bytes LIMITS _ w)
 
-  port_begun : (face : ℕ) → HasHalted k (IsNoPort k face) old new → HasHalted k IsBegun old new
-  port_begun face = all_begun (IsNoPort k face) (λ c packets bytes w. w.0)
+  port_begun : (face : ℕ) → HasHalted k (λ c. IsNoPort LIMITS (length k.outs) face) old new → HasHalted k IsBegun old new
+  port_begun face = all_begun (λ c. IsNoPort LIMITS (length k.outs) face) (λ c packets bytes w. w.0)
 
-  limit_begun : (kind : LimitKind) → HasHalted k (IsPast k kind) old new → HasHalted k IsBegun old new
-  limit_begun kinds.Bytes = all_begun (IsPast k kinds.Bytes) (λ c packets bytes w. begins_stop packets bytes LIMITS _ w)
-  limit_begun kinds.Frames = all_begun (IsPast k kinds.Frames) (λ c packets bytes w. begins_stop packets bytes LIMITS _ w)
-  limit_begun kinds.Span = all_begun (IsPast k kinds.Span) (λ c packets bytes w. w.0)
+  limit_begun : (kind : LimitKind) → HasHalted k (λ c. IsPast c LIMITS (length k.outs) kind) old new → HasHalted k IsBegun old new
+  limit_begun kinds.Bytes = all_begun (λ c. IsPast c LIMITS (length k.outs) kinds.Bytes) (λ c packets bytes w. begins_stop packets bytes LIMITS _ w)
+  limit_begun kinds.Frames = all_begun (λ c. IsPast c LIMITS (length k.outs) kinds.Frames) (λ c packets bytes w. begins_stop packets bytes LIMITS _ w)
+  limit_begun kinds.Span = all_begun (λ c. IsPast c LIMITS (length k.outs) kinds.Span) (λ c packets bytes w. w.0)
 
   lived_begun : (frames entries : ℕ) → HasLived k frames entries old new → HasHalted k IsBegun old new
   lived_begun frames entries h = record {

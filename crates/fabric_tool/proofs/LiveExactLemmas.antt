@@ -1,5 +1,5 @@
 -- What comes first in a stream comes first: where nothing fails, `live` ends as its inputs say.
-use Rattle.std.proofs.Common.{◌≡◌, ℕ, zero, suc, ◌+◌, ◌-◌, ◌<◌, ◌≤◌, List, [], ◌∷◌, ◌++◌, ◌⊎◌, ◌&&◌, true, eqb, length, length-append, length-drop, drop, Some, IsTrue, refl, sym, ap, ◌∙◌, subst, arith, inl, inr}
+use Rattle.std.proofs.Common.{◌≡◌, ℕ, zero, suc, ◌+◌, ◌-◌, ◌<◌, ◌≤◌, List, [], ◌∷◌, ◌++◌, ◌⊎◌, ◌&&◌, true, eqb, length, append-nil, length-append, length-drop, drop, Some, IsTrue, refl, sym, ap, ◌∙◌, subst, arith, inl, inr}
 use Rattle.std.specs.Prelude.{is_some}
 use Rattle.fab_base.specs.Seen.{Seen}
 use Rattle.fab_base.specs.Sunk.{Sunk}
@@ -12,17 +12,17 @@ use Rattle.pcapng_file.specs.declared.fault.NgError.TheVariants as errors
 use Rattle.pcapng_file.specs.declared.fault.NgLimit.TheVariants as ng_limits
 use Rattle.pcapng_file.specs.File.{Section, before_all, content_at, head_at, after, found, IsNg, step_of}
 use Rattle.pcapng_file.specs.Laws.{Within}
-use Rattle.pcapng_file.specs.Stream.{Parts}
+use Rattle.pcapng_file.specs.Stream.{Parts, Stops, left_of}
 use Rattle.pcapng_file.proofs.LawLemmas.{Stands, size_fits, long_enough, step_stands}
 use Rattle.pcapng_file.proofs.StepLemmas.{step_end}
 use Rattle.pcap_file.specs.declared.fault.LimitKind.{LimitKind}
 use Rattle.pcap_file.specs.declared.fault.LimitKind.TheVariants as kinds
 use Rattle.fab_live.specs.Arriving.{arrive, arrived, AllFaces, NoneTooLate, IsInSpan}
-use Rattle.fab_live.specs.Live.{BeginsWithin, Stops, left_behind}
+use Rattle.fab_live.specs.Live.{BeginsWithin, IsFaulty, IsNoPort, IsPast}
 use Rattle.fabric_tool.specs.Command.{LiveWords, Live}
 use Rattle.fabric_tool.specs.Ends.{Holds}
 use Rattle.fabric_tool.specs.Inputs.{HasConfig, HasFault, LIMITS, MOST_BYTES, MOST_FRAMES}
-use Rattle.fabric_tool.specs.Living.{HasLived, HasHalt, IsFaulty, IsNoPort, IsPast, live_ending, LiveEnded, LiveForms, LiveSays, live_meaning}
+use Rattle.fabric_tool.specs.Living.{HasLived, HasHalt, live_ending, LiveEnded, LiveForms, LiveSays, live_meaning}
 use Rattle.fabric_tool.specs.Outcome.{status_of, line_of}
 use Rattle.fabric_tool.specs.declared.outcome.Outcome.{Outcome}
 use Rattle.fabric_tool.specs.declared.outcome.Outcome.TheVariants as ends
@@ -56,7 +56,7 @@ parts_length (suc n) s t v l rest p =
 
 -- where a stream stops, as a walk
 abbrev stopped_walk : (v : List NgRecord) (l : List ℕ) (e : NgError) → Stops v l LIMITS e → BeginsWithin v l LIMITS
-stopped_walk v l e s = record { section = s.section; rest = s.rest; at = s.at; begins = s.begins; place = s.place; bytes = s.bytes; count = s.count }
+stopped_walk v l e s = record { section = s.section; rest = s.rest; begins = s.begins; bytes = s.bytes; frames = s.frames }
 
 -- nothing is behind the place where a stream stops
 no_stop : (v u : List NgRecord) (l : List ℕ) (e : NgError) (s : Stops v l LIMITS e) (b : BeginsWithin u l LIMITS) → s.begins.0 < b.begins.0 → ⊥
@@ -69,15 +69,14 @@ no_stop v u l e s b lt =
     let fits = size_fits s.section s.rest st in
     let shorter = parts_length k (after s.section (content_at s.section s.rest)) b.section p.2 (drop (head_at s.section s.rest).size s.rest) b.rest p.4 in
     let dropped = length-drop (head_at s.section s.rest).size s.rest in
-    let there = s.place in
-    let there' = b.place in
+    let there = parts_length s.begins.0 before_all s.section v l s.rest s.begins.1 in
     let most = b.bytes in
-    let many = b.count in
+    let many = b.frames in
     let all : length u ≡ length v + length h.0 = ap (λ (x : List NgRecord). length x) h.1 ∙ length-append v h.0 in
     let more : length h.0 ≡ length (found (content_at s.section s.rest)) + length p.2 = ap (λ (x : List NgRecord). length x) p.3 ∙ length-append (found (content_at s.section s.rest)) p.2 in
-    let room : (head_at s.section s.rest).size ≤ MOST_BYTES - s.at = omega arith in
+    let room : (head_at s.section s.rest).size ≤ MOST_BYTES - (length l - length s.rest) = omega arith in
     let frames : length (found (content_at s.section s.rest)) ≤ MOST_FRAMES - length v = omega arith in
-    let ok = (step_stands (left_behind LIMITS s.at (length v)) s.at s.section s.rest st room frames).is in
+    let ok = (step_stands (left_of LIMITS v (length l - length s.rest)) (length l - length s.rest) s.section s.rest st room frames).is in
     let both = sym ok ∙ s.step in
     absurd (cc)
 
@@ -89,17 +88,11 @@ stops_once v u l e f s r le = elim (le_or_lt r.begins.0 s.begins.0) [
       let count : r.begins.0 ≡ s.begins.0 + 0 = omega arith in
       let h = further r.begins.0 s.begins.0 0 count before_all s.section r.section v u l s.rest r.rest s.begins.1 r.begins.1 in
       let p = h.2 in
-      let none : length h.0 ≡ 0 = ap (λ (x : List NgRecord). length x) p.0 in
-      let all : length u ≡ length v + length h.0 = ap (λ (x : List NgRecord). length x) h.1 ∙ length-append v h.0 in
-      let same_rest : length s.rest ≡ length r.rest = ap (λ (x : List ℕ). length x) p.2 in
-      let there = s.place in
-      let there' = r.place in
-      let at : s.at ≡ r.at = omega arith in
-      let frames : length v ≡ length u = omega arith in
-      let moved = ap (λ (n : ℕ). step_of (left_behind LIMITS n (length v)) n s.section s.rest) at
-      ∙ ap (λ (n : ℕ). step_of (left_behind LIMITS r.at n) r.at s.section s.rest) frames
-      ∙ ap (λ (x : Section). step_of (left_behind LIMITS r.at (length u)) r.at x s.rest) p.1
-      ∙ ap (λ (x : List ℕ). step_of (left_behind LIMITS r.at (length u)) r.at r.section x) p.2 in
+      let same : u ≡ v = h.1 ∙ ap (λ (x : List NgRecord). v ++ x) p.0 ∙ append-nil v in
+      let gone = length l - length r.rest in
+      let moved = ap (λ (x : List ℕ). step_of (left_of LIMITS v (length l - length x)) (length l - length x) s.section x) p.2
+      ∙ ap (λ (x : Section). step_of (left_of LIMITS v gone) gone x r.rest) p.1
+      ∙ ap (λ (x : List NgRecord). step_of (left_of LIMITS x gone) gone r.section r.rest) (sym same) in
       let both = sym s.step ∙ moved ∙ r.step in
       cc
 ]
@@ -115,7 +108,7 @@ whole_of : (v : List NgRecord) (l : List ℕ) → IsNg v l → Within LIMITS v l
 whole_of v l b within =
     let parts = blocks_parts b.0 before_all v l b.1 in
     record {
-      walk = record { section = parts.0; rest = []; at = length l; begins = (b.0, parts.2); place = omega arith; bytes = within.0; count = within.1 };
+      walk = record { section = parts.0; rest = []; begins = (b.0, parts.2); bytes = let e = within.0 in omega (arith, e); frames = within.1 };
       none = refl;
       order = parts.1;
     }
@@ -143,7 +136,7 @@ not_stopped v u l e x s = elim (le_or_lt x.walk.begins.0 s.begins.0) [
         let none : s.rest ≡ [] = sym h.2.2 ∙ x.none in
         let some : is_some s.section.order ≡ true = ap (λ (y : Section). is_some y.order) (sym h.2.1) ∙ x.order in
         let ended : (eqb (length s.rest) 0 && is_some s.section.order) ≡ true = ap (λ (y : List ℕ). eqb (length y) 0 && is_some s.section.order) none ∙ some in
-        let both = sym (step_end (left_behind LIMITS s.at (length u)) s.at s.section s.rest ended) ∙ s.step in
+        let both = sym (step_end (left_of LIMITS u (length l - length s.rest)) (length l - length s.rest) s.section s.rest ended) ∙ s.step in
         absurd (cc)
   ]
 ]
@@ -305,7 +298,7 @@ module _ (k : LiveWords) (d : Seen) where
   last_face n [] r a = a.0
   last_face n (x ∷ v) r a = last_face n v r a.1
 
-  by_port : (face : ℕ) → HasHalt k (IsNoPort k face) d → Finds (ends.NoPort face)
+  by_port : (face : ℕ) → HasHalt k (λ c. IsNoPort LIMITS (length k.outs) face) d → Finds (ends.NoPort face)
   by_port face h =
       let w = h.why in
       inr (record {
@@ -324,7 +317,7 @@ module _ (k : LiveWords) (d : Seen) where
         };
       })
 
-  by_span : HasHalt k (IsPast k kinds.Span) d → Finds (ends.Limit kinds.Span)
+  by_span : HasHalt k (λ c. IsPast c LIMITS (length k.outs) kinds.Span) d → Finds (ends.Limit kinds.Span)
   by_span h =
       let w = h.why in
       inr (record {
@@ -339,14 +332,14 @@ module _ (k : LiveWords) (d : Seen) where
         };
       })
 
-  by_limit : (kind : LimitKind) → HasHalt k (IsPast k kind) d → Finds (ends.Limit kind)
-  by_limit kinds.Bytes h = by_stop (IsPast k kinds.Bytes) (errors.Limit ng_limits.Bytes) (λ c v l w. w) h
-  by_limit kinds.Frames h = by_stop (IsPast k kinds.Frames) (errors.Limit ng_limits.Frames) (λ c v l w. w) h
+  by_limit : (kind : LimitKind) → HasHalt k (λ c. IsPast c LIMITS (length k.outs) kind) d → Finds (ends.Limit kind)
+  by_limit kinds.Bytes h = by_stop (λ c. IsPast c LIMITS (length k.outs) kinds.Bytes) (errors.Limit ng_limits.Bytes) (λ c v l w. w) h
+  by_limit kinds.Frames h = by_stop (λ c. IsPast c LIMITS (length k.outs) kinds.Frames) (errors.Limit ng_limits.Frames) (λ c v l w. w) h
   by_limit kinds.Span h = by_span h
 
   said : (p : Outcome) → LiveSays k d p → Finds p
   said (ends.Config fault) says = inl (fault, says, refl)
-  said (ends.BadStream at why) says = by_stop (IsFaulty at why) (errors.Fault at why) (λ c v l w. w) says
+  said (ends.BadStream at why) says = by_stop (λ c. IsFaulty LIMITS at why) (errors.Fault at why) (λ c v l w. w) says
   said (ends.NoPort face) says = by_port face says
   said (ends.Limit kind) says = by_limit kind says
   said p says = absurd says
@@ -356,7 +349,7 @@ module _ (k : LiveWords) (d : Seen) where
     ended : (o : Outcome) → Said d (live_ending k d new o) → ((frames : ℕ) × (entries : ℕ) × HasLived k frames entries d new × (o ≡ ends.Ran frames entries)) ⊎ (Finds o ⊎ (o ≡ ends.Memory))
     ended (ends.Ran frames entries) h = inl (frames, entries, h told, refl)
     ended (ends.Config fault) h = inr (inl (inl (fault, h told, refl)))
-    ended (ends.BadStream at why) h = inr (inl (by_stop (IsFaulty at why) (errors.Fault at why) (λ c v l w. w) (h told).halt))
+    ended (ends.BadStream at why) h = inr (inl (by_stop (λ c. IsFaulty LIMITS at why) (errors.Fault at why) (λ c v l w. w) (h told).halt))
     ended (ends.NoPort face) h = inr (inl (by_port face (h told).halt))
     ended (ends.Limit kind) h = inr (inl (by_limit kind (h told).halt))
     ended ends.Memory h = inr (inr refl)

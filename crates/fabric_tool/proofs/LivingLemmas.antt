@@ -13,7 +13,8 @@ use Rattle.pcap_file.specs.declared.Budget.{Budget}
 use Rattle.pcap_file.specs.Capture.{IsCapture}
 use Rattle.pcapng_file.specs.declared.NgRecord.{NgRecord}
 use Rattle.pcapng_file.specs.File.{before_all, AreKept}
-use Rattle.pcapng_file.specs.Classic.{classic_bytes, timed, written, ReadsBack}
+use Rattle.pcapng_file.specs.Classic.{Ascend, written, OrderedReadsBack}
+use Rattle.pcapng_file.proofs.BackLemmas.{ascend_filter, kept_filter}
 use Rattle.fab_policy.specs.Growing.{NothingIsRun}
 use Rattle.fab_policy.specs.Journal.{Journal}
 use Rattle.fab_policy.specs.Legal.{Run}
@@ -23,12 +24,11 @@ use Rattle.fab_policy.specs.Standing.{Contents}
 use Rattle.fab_policy.specs.Text.{text, egress}
 use Rattle.fab_policy.proofs.NamedLemmas.{text_names_journal}
 use Rattle.fab_base.specs.Slots.{name_of, NameIn}
-use Rattle.pcap_file.specs.declared.fault.LimitKind.TheVariants as kinds
 use Rattle.fab_windows.specs.Files.{InOrder, file_bytes, captures, text_so_far, captures_so_far}
 use Rattle.fab_windows.specs.declared.Done.{Done}
-use Rattle.fab_live.specs.Arriving.{arrived, of_face, recorded, port_records, records_of}
+use Rattle.fab_live.specs.Arriving.{arrived, of_face, port_records, records_of}
 use Rattle.fab_live.specs.Files.{LiveSlots, LiveNames, AreLive}
-use Rattle.fab_live.specs.Live.{AreGiven, HoldLive, HoldSome, IsLiveRun, LeftWhole, LeftBroken, LiveFinished, LiveRuns, Begins}
+use Rattle.fab_live.specs.Live.{AreGiven, HoldLive, HoldSome, IsLiveRun, LeftWhole, LeftBroken, LiveFinished, LiveRuns, Begins, IsFaulty, IsNoPort, IsPast}
 use Rattle.fab_live.specs.declared.fault.LiveFault.{LiveFault}
 use Rattle.fab_live.specs.declared.fault.LiveFault.TheVariants as fault
 use Rattle.fab_replay.proofs.OneLemmas.{same_frames}
@@ -40,7 +40,7 @@ use Rattle.run_files.proofs.OpenLemmas.{there, slots_count, are_outputs, up_to_r
 use Rattle.fabric_tool.specs.Command.{LiveWords, Live, AllKnown, is_live, live_of, live_count, came_at, sent_at, by_port}
 use Rattle.fabric_tool.specs.Inputs.{HasConfig, AreCaptures, LIMITS}
 use Rattle.fabric_tool.specs.Left.{AreUnwritten, LegalIsSafe}
-use Rattle.fabric_tool.specs.Living.{came_on, HoldsSession, HoldsSessionFronts, HasSession, HasLived, HasHalt, HasHalted, HasLiveFront, IsBegun, IsFaulty, IsNoPort, IsPast, IsLiveRefused}
+use Rattle.fabric_tool.specs.Living.{came_on, HoldsSession, HoldsSessionFronts, HasSession, HasLived, HasHalt, HasHalted, HasLiveFront, IsBegun, IsLiveRefused}
 use Rattle.fabric_tool.specs.Ending.{CountsOf}
 use Rattle.fabric_tool.specs.Ends.{Holds, KeepsOthers}
 use Rattle.fabric_tool.specs.Opening.{RecordedOpened, HasWidth, lived_by}
@@ -58,33 +58,10 @@ use Rattle.fabric_tool.proofs.RanLemmas.{AreNamed, named_still, named_at, in_ord
 
 -- ---- what came is read back
 
--- moments that don't go back, from one on
-abbrev Ascend : ℕ → List NgRecord → Type 0
-Ascend g [] = Unit {0}
-Ascend g (r ∷ v) = (g ≤ r.moment) × Ascend r.moment v
-
-ascend_from : (g h : ℕ) (v : List NgRecord) → g ≤ h → Ascend h v → Ascend g v
-ascend_from g h [] le a = tt
-ascend_from g h (r ∷ v) le a = (let e = a.0 in omega arith, a.1)
-
+-- each is taken at the greatest moment so far, so they are in order, and keep what they keep
 arrived_ascend : (g : ℕ) (v : List NgRecord) → Ascend g (arrived g v)
 arrived_ascend g [] = tt
 arrived_ascend g (r ∷ v) = (omega arith, arrived_ascend (max g r.moment) v)
-
-port_ascend : (q g : ℕ) (v : List NgRecord) → Ascend g v → Ascend g (of_face q v)
-port_ascend q g [] a = tt
-port_ascend q g (r ∷ v) a = pick (r.face == q) (port_ascend q r.moment v a.1)
-  where
-    pick : (b : Bool) → Ascend r.moment (of_face q v) → Ascend g (if b then r ∷ of_face q v else of_face q v)
-    pick true rest = (a.0, rest)
-    pick false rest = ascend_from g r.moment (of_face q v) a.0 rest
-
-timed_is : (g : ℕ) (v : List NgRecord) → Ascend g v → timed g v ≡ map recorded v
-timed_is g [] a = refl
-timed_is g (r ∷ v) a =
-    let le = a.0 in
-    let same : max g r.moment ≡ r.moment = omega arith in
-    ap (λ (m : ℕ). record { moment = m; caught = r.caught } ∷ timed m v) same ∙ ap (λ l. recorded r ∷ l) (timed_is r.moment v a.1)
 
 arrived_kept : (g : ℕ) (v : List NgRecord) → g < 2 ^ 32 * 1000 → AreKept v → AreKept (arrived g v)
 arrived_kept g [] lt k = tt
@@ -92,22 +69,13 @@ arrived_kept g (r ∷ v) lt k =
     let at = k.0.moment in
     (record { moment = omega arith; stored = k.0.stored; original = k.0.original; whole = k.0.whole }, arrived_kept (max g r.moment) v (omega arith) k.1)
 
-port_kept : (q : ℕ) (v : List NgRecord) → AreKept v → AreKept (of_face q v)
-port_kept q [] k = tt
-port_kept q (r ∷ v) k = pick (r.face == q) (port_kept q v k.1)
-  where
-    pick : (b : Bool) → AreKept (of_face q v) → AreKept (if b then r ∷ of_face q v else of_face q v)
-    pick true rest = (k.0, rest)
-    pick false rest = rest
-
 -- what came on a port is a capture of the port's records
-came_back : ReadsBack → (packets : List NgRecord) → AreKept packets → (q : ℕ) → IsCapture written (port_records (arrived 0 packets) q) (came_on packets q)
+came_back : OrderedReadsBack → (packets : List NgRecord) → AreKept packets → (q : ℕ) → IsCapture written (port_records (arrived 0 packets) q) (came_on packets q)
 came_back back packets kept q =
-    let v = of_face q (arrived 0 packets) in
-    subst (λ l. IsCapture written l (classic_bytes v)) (timed_is 0 v (port_ascend q 0 (arrived 0 packets) (arrived_ascend 0 packets)))
-    (back v (port_kept q (arrived 0 packets) (arrived_kept 0 packets (omega arith) kept)))
+    back (of_face q (arrived 0 packets)) (kept_filter (λ r. r.face == q) (arrived 0 packets) (arrived_kept 0 packets (omega arith) kept))
+    (ascend_filter (λ r. r.face == q) 0 (arrived 0 packets) (arrived_ascend 0 packets))
 
-all_back : ReadsBack → (packets : List NgRecord) → AreKept packets → (d : Seen) (names : List (List ℕ)) (k : ℕ) → map (λ n. d.file n) names ≡ map (λ l. Some l) (map (came_on packets) (counting k (length names))) → AreCaptures d names (map (port_records (arrived 0 packets)) (counting k (length names)))
+all_back : OrderedReadsBack → (packets : List NgRecord) → AreKept packets → (d : Seen) (names : List (List ℕ)) (k : ℕ) → map (λ n. d.file n) names ≡ map (λ l. Some l) (map (came_on packets) (counting k (length names))) → AreCaptures d names (map (port_records (arrived 0 packets)) (counting k (length names)))
 all_back back packets kept d [] k are = tt
 all_back back packets kept d (n ∷ names) k are =
     let first : d.file n ≡ Some (came_on packets k) = cc in
@@ -315,7 +283,7 @@ pub record IsStream (k : LiveWords) (old a : Seen) (stream : ℕ) : Type 0 where
 le_trans : {x y z : ℕ} → x ≤ y → y ≤ z → x ≤ z
 le_trans {x} {y} {z} h k = omega arith
 
-module _ (words : List (String Global)) (live : is_live words ≡ true) (safe : LegalIsSafe) (back : ReadsBack) (nothing : NothingIsRun) (c : Settings) (range : IsTrue (is_in_range c)) (old m s a : Seen)
+module _ (words : List (String Global)) (live : is_live words ≡ true) (safe : LegalIsSafe) (back : OrderedReadsBack) (nothing : NothingIsRun) (c : Settings) (range : IsTrue (is_in_range c)) (old m s a : Seen)
     (config : IsTrue old.told → HasConfig old (live_of words).config c) (read : Uses (Only (live_of words).config) Nothing Said old m) where
   abbrev kk : LiveWords
   kk = live_of words
@@ -481,19 +449,15 @@ module _ (words : List (String Global)) (live : is_live words ≡ true) (safe : 
       pub live_ended : (b : Seen) (x : Result Done LiveFault) → LiveRuns c LIMITS stream fs a b x → Holds (Live kk) old b (lived_by x)
       live_ended b (Ok done) x = (others b x.uses.touches, λ told. finished b x.uses.touches done told (x.ends (told_a told)), none_then old a b quiet_a x.uses.counts)
       live_ended b (Err (fault.Block at why)) x =
-          (others b x.uses.touches, λ told. let e = x.ends (told_a told) in halted b x.uses.touches (IsFaulty at why) told e.0 e.1 e.2, none_then old a b quiet_a x.uses.counts)
+          (others b x.uses.touches, λ told. let e = x.ends (told_a told) in halted b x.uses.touches (λ c. IsFaulty LIMITS at why) told e.0 e.1 e.2, none_then old a b quiet_a x.uses.counts)
       live_ended b (Err (fault.Port face)) x = (
         others b x.uses.touches,
-        λ told. let e = x.ends (told_a told) in halted b x.uses.touches (IsNoPort kk face) told e.0 (e.1, e.2, e.3, e.4, let le = e.5 in omega (arith, le, width.1)) e.6,
+        λ told. let e = x.ends (told_a told) in halted b x.uses.touches (λ c. IsNoPort LIMITS (length kk.outs) face) told e.0 (subst (λ (n : ℕ). IsNoPort LIMITS n face e.0 (a.left stream)) width.1 e.1) e.2,
         none_then old a b quiet_a x.uses.counts,
       )
-      live_ended b (Err (fault.Limit kinds.Bytes)) x =
-          (others b x.uses.touches, λ told. let e = x.ends (told_a told) in halted b x.uses.touches (IsPast kk kinds.Bytes) told e.0 e.1 e.2, none_then old a b quiet_a x.uses.counts)
-      live_ended b (Err (fault.Limit kinds.Frames)) x =
-          (others b x.uses.touches, λ told. let e = x.ends (told_a told) in halted b x.uses.touches (IsPast kk kinds.Frames) told e.0 e.1 e.2, none_then old a b quiet_a x.uses.counts)
-      live_ended b (Err (fault.Limit kinds.Span)) x = (
+      live_ended b (Err (fault.Limit kind)) x = (
         others b x.uses.touches,
-        λ told. let e = x.ends (told_a told) in halted b x.uses.touches (IsPast kk kinds.Span) told e.0 (e.1, e.2, e.3, (let lt = e.4 in omega (arith, lt, width.1)), e.5) e.6,
+        λ told. let e = x.ends (told_a told) in halted b x.uses.touches (λ c. IsPast c LIMITS (length kk.outs) kind) told e.0 (subst (λ (n : ℕ). IsPast c LIMITS n kind e.0 (a.left stream)) width.1 e.1) e.2,
         none_then old a b quiet_a x.uses.counts,
       )
       live_ended b (Err fault.Read) x =

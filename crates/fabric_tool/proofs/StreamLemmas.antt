@@ -5,8 +5,8 @@ use Rattle.pcap_file.specs.declared.Budget.{Budget}
 use Rattle.pcapng_file.specs.declared.NgRecord.{NgRecord}
 use Rattle.pcapng_file.specs.declared.fault.NgError.{NgError}
 use Rattle.pcapng_file.specs.File.{Section, before_all, content_at, head_at, after, Blocks, IsNg}
-use Rattle.pcapng_file.specs.Stream.{Parts}
-use Rattle.fab_live.specs.Live.{Begins, Stops}
+use Rattle.pcapng_file.specs.Stream.{Parts, Stops}
+use Rattle.fab_live.specs.Live.{Begins}
 
 -- a file of packets begins with them
 pub blocks_parts : (n : ℕ) (s : Section) (v : List NgRecord) (l : List ℕ) → Blocks n s v l → (t : Section) × IsTrue (is_some t.order) × Parts n s v l t []

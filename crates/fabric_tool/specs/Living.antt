@@ -4,18 +4,14 @@ use Rattle.fab_base.specs.Seen.{Seen, Rose, SameFiles}
 use Rattle.fab_base.specs.Sunk.{Sunk}
 use Rattle.fab_config.specs.Settings.{Settings}
 use Rattle.pcapng_file.specs.declared.NgRecord.{NgRecord}
-use Rattle.pcapng_file.specs.declared.fault.NgWhy.{NgWhy}
-use Rattle.pcapng_file.specs.declared.fault.NgError.TheVariants as errors
-use Rattle.pcapng_file.specs.declared.fault.NgLimit.TheVariants as ng_limits
 use Rattle.pcapng_file.specs.Classic.{classic_bytes}
 use Rattle.fab_policy.specs.Journal.{Journal, frame_count}
 use Rattle.fab_base.specs.Counting.{counting}
 use Rattle.fab_policy.specs.Text.{text}
 use Rattle.pcap_file.specs.declared.fault.LimitKind.{LimitKind}
-use Rattle.pcap_file.specs.declared.fault.LimitKind.TheVariants as kinds
 use Rattle.fab_windows.specs.Run.{IsRunOver}
 use Rattle.fab_live.specs.Arriving.{arrived, of_face, records_of, AllFaces, IsInSpan}
-use Rattle.fab_live.specs.Live.{IsLiveRun, Begins, BeginsWithin, Stops}
+use Rattle.fab_live.specs.Live.{IsLiveRun, Begins, IsFaulty, IsNoPort, IsPast}
 use Rattle.fabric_tool.specs.Command.{RunNames, LiveWords, by_port}
 use Rattle.fabric_tool.specs.Ending.{Ending, Never, Untouched, Leaves, LeavesUnread, Unwritten}
 use Rattle.fabric_tool.specs.Inputs.{HasConfig, HasFault, HasPackets, AreCaptures, LIMITS}
@@ -90,19 +86,7 @@ pub record HasHalted (k : LiveWords) (Why : Settings → List NgRecord → List 
   pub halt : HasHalt k Why old
   pub session : HasSession k halt.settings halt.packets new
 
--- the reasons: a block has a fault; the next packet is of an interface that is no port; a limit is passed; none is known
-abbrev pub IsFaulty : ℕ → NgWhy → Settings → List NgRecord → List ℕ → Type 0
-IsFaulty at fault c packets bytes = Stops packets bytes LIMITS (errors.Fault at fault)
-
-abbrev pub IsNoPort : LiveWords → ℕ → Settings → List NgRecord → List ℕ → Type 0
-IsNoPort k face c packets bytes = Begins packets bytes × (r : NgRecord) × BeginsWithin (packets ++ r ∷ []) bytes LIMITS × (r.face ≡ face) × (length k.outs ≤ face)
-
-abbrev pub IsPast : LiveWords → LimitKind → Settings → List NgRecord → List ℕ → Type 0
-IsPast k kinds.Bytes c packets bytes = Stops packets bytes LIMITS (errors.Limit ng_limits.Bytes)
-IsPast k kinds.Frames c packets bytes = Stops packets bytes LIMITS (errors.Limit ng_limits.Frames)
-IsPast k kinds.Span c packets bytes =
-    Begins packets bytes × (r : NgRecord) × BeginsWithin (packets ++ r ∷ []) bytes LIMITS × (r.face < length k.outs) × (¬ IsInSpan c (arrived 0 (packets ++ r ∷ [])))
-
+-- nothing more is said of the packets than that the stream begins with them
 abbrev pub IsBegun : Settings → List NgRecord → List ℕ → Type 0
 IsBegun c packets bytes = Begins packets bytes
 
@@ -131,9 +115,9 @@ IsLiveRefused k old new = SameFiles old new ⊎ (HasHalted k IsBegun old new ⊎
 abbrev pub live_ending : LiveWords → Seen → Seen → Outcome → Ending
 live_ending k old new (ends.Ran frames entries) = Leaves (HasLived k frames entries old new)
 live_ending k old new (ends.Config fault) = Untouched (HasFault old k.config fault)
-live_ending k old new (ends.BadStream at fault) = Leaves (HasHalted k (IsFaulty at fault) old new)
-live_ending k old new (ends.NoPort face) = Leaves (HasHalted k (IsNoPort k face) old new)
-live_ending k old new (ends.Limit kind) = Leaves (HasHalted k (IsPast k kind) old new)
+live_ending k old new (ends.BadStream at fault) = Leaves (HasHalted k (λ c. IsFaulty LIMITS at fault) old new)
+live_ending k old new (ends.NoPort face) = Leaves (HasHalted k (λ c. IsNoPort LIMITS (length k.outs) face) old new)
+live_ending k old new (ends.Limit kind) = Leaves (HasHalted k (λ c. IsPast c LIMITS (length k.outs) kind) old new)
 live_ending k old new ends.ReadFault = LeavesUnread (IsLiveUnread k old new)
 live_ending k old new ends.WriteFault = Unwritten (HasLiveFront k old new)
 live_ending k old new ends.Memory = Leaves (IsLiveRefused k old new)
@@ -164,9 +148,9 @@ pub record LiveForms (k : LiveWords) (d : Seen) : Type 0 where
 -- what the inputs are refused for: the configuration's fault, or what comes first in the stream
 abbrev pub LiveSays : LiveWords → Seen → Outcome → Type 0
 LiveSays k d (ends.Config fault) = HasFault d k.config fault
-LiveSays k d (ends.BadStream at fault) = HasHalt k (IsFaulty at fault) d
-LiveSays k d (ends.NoPort face) = HasHalt k (IsNoPort k face) d
-LiveSays k d (ends.Limit kind) = HasHalt k (IsPast k kind) d
+LiveSays k d (ends.BadStream at fault) = HasHalt k (λ c. IsFaulty LIMITS at fault) d
+LiveSays k d (ends.NoPort face) = HasHalt k (λ c. IsNoPort LIMITS (length k.outs) face) d
+LiveSays k d (ends.Limit kind) = HasHalt k (λ c. IsPast c LIMITS (length k.outs) kind) d
 LiveSays k d _ = ⊥
 
 -- ---- the command

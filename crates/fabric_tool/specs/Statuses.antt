@@ -40,9 +40,10 @@ pub record OfCommand (words : List (String Global)) (P : Command → Type 0) : T
 
 -- ---- refused
 
--- Status 1: of `run`, the configuration has a fault, or a capture can't be taken; of `convert`, the pcapng file has a fault at a
--- block; of `migrate`, the journal has one at a line; of `snoop` and `enode`, the configuration has a fault, or a capture can't be taken;
--- of `live`, the configuration has a fault, or the stream can't be taken from a block or a packet on.
+-- Status 1: an input can't be taken. Of `run` and `snoop` the configuration has a fault, or a capture can't be taken; of `enode` its
+-- capture; of `live` the configuration has a fault, or the stream can't be taken from a block or a packet on; of `replay` and `show` it's
+-- as of `run`, or a line of the journal is wrong, and of `replay` an output is; of `convert` the pcapng file has a fault at a block; of
+-- `migrate` the journal has one at a line.
 abbrev pub IsRefused : Command → Seen → Seen → Type 0
 IsRefused k old new = (o : Outcome) × (status_of o ≡ 1) × Holds k old new o
 

@@ -16,7 +16,7 @@ use fab_live::{Done, LiveFault, LiveFiles, run_live};
 use fab_policy::records_come_later;
 use forward_core::Fabric;
 use pcap_file::Budget;
-use pcapng_file::a_capture_of_packets_is_read_back;
+use pcapng_file::packets_in_order_are_read_back;
 use run_files::add_slot;
 use std::alloc::Global;
 use std::thread::Threads;
@@ -48,7 +48,7 @@ pub(crate) fn live<R: Threads + Sync, D: Depot>(
     // is a run without entries; and how a capture of packets is read.
     legal_is_safe();
     records_come_later();
-    a_capture_of_packets_is_read_back();
+    packets_in_order_are_read_back();
     let fabric = match fabric_of(alloc, words, depot) {
         Ok(fabric) => fabric,
         Err(outcome) => return outcome,

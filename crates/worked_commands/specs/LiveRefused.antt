@@ -11,7 +11,8 @@ use Rattle.pcapng_file.specs.declared.fault.NgLimit.TheVariants as limits
 use Rattle.pcapng_file.specs.declared.fault.NgWhy.TheVariants as ng
 use Rattle.pcapng_file.proofs.LawLemmas.{Read, read_is_file}
 use Rattle.fab_live.specs.Arriving.{arrived, AllFaces, IsInSpan}
-use Rattle.fab_live.specs.Live.{Begins, BeginsWithin, Stops}
+use Rattle.fab_live.specs.Live.{Begins, BeginsWithin}
+use Rattle.pcapng_file.specs.Stream.{Stops}
 use Rattle.fabric_tool.specs.Command.{Live}
 use Rattle.fabric_tool.specs.Inputs.{LIMITS}
 use Rattle.fabric_tool.specs.Statuses.{Says}
@@ -39,7 +40,7 @@ live_says_block = record {
   packets = [];
   faces = tt;
   span = tt;
-  why = record { section = pcapng.before_all; rest = []; at = 0; begins = (0, (refl, refl, refl)); place = refl; bytes = lit≤ tt; count = lit≤ tt; step = refl };
+  why = record { section = pcapng.before_all; rest = []; begins = (0, (refl, refl, refl)); bytes = lit≤ tt; frames = lit≤ tt; step = refl };
 }
 
 pub live_says_bytes : Says (Live port) (holding (with_stream HUGE)) (ends.Limit kinds.Bytes)
@@ -52,7 +53,7 @@ live_says_bytes = record {
   packets = [];
   faces = tt;
   span = tt;
-  why = record { section = pcapng.before_all; rest = HUGE; at = 0; begins = (0, (refl, refl, refl)); place = refl; bytes = lit≤ tt; count = lit≤ tt; step = refl };
+  why = record { section = pcapng.before_all; rest = HUGE; begins = (0, (refl, refl, refl)); bytes = lit≤ tt; frames = lit≤ tt; step = refl };
 }
 
 -- any stream whose packets pass the limit on frames
@@ -65,7 +66,7 @@ live_says_frames packets bytes faces span stops = record { settings = K; config 
 within : (packets : List NgRecord) (bytes : List ℕ) → Read LIMITS pcapng.before_all packets bytes → BeginsWithin packets bytes LIMITS
 within packets bytes read =
     let parts = blocks_parts read.file.0 pcapng.before_all packets bytes read.file.1 in
-    record { section = parts.0; rest = []; at = length bytes; begins = (read.file.0, parts.2); place = omega (arith); bytes = read.bytes; count = read.frames }
+    record { section = parts.0; rest = []; begins = (read.file.0, parts.2); bytes = let e = read.bytes in omega (arith, e); frames = read.frames }
 
 abbrev INTERFACE : List ℕ
 INTERFACE = 1 ∷ 0 ∷ 0 ∷ 0 ∷ 20 ∷ 0 ∷ 0 ∷ 0 ∷ 1 ∷ 0 ∷ 0 ∷ 0 ∷ 0 ∷ 0 ∷ 0 ∷ 0 ∷ 20 ∷ 0 ∷ 0 ∷ 0 ∷ []

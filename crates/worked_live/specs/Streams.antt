@@ -4,9 +4,9 @@ use Rattle.std.proofs.Common.{lit≤}
 use Rattle.pcap_file.specs.declared.Budget.{Budget}
 use Rattle.pcapng_file.specs.Block as block
 use Rattle.pcapng_file.specs.File as file
+use Rattle.pcapng_file.specs.Stream.{Stops}
 use Rattle.pcapng_file.specs.declared.fault.NgError.TheVariants as errors
 use Rattle.pcapng_file.specs.declared.fault.NgWhy.TheVariants as why
-use Rattle.fab_live.specs.Live.{Stops}
 
 -- a section header, and nothing behind it
 abbrev pub SECTION : List ℕ
@@ -27,10 +27,8 @@ unfolding file.step_of block.head_read block.body_read
 cut_inside = record {
   section = record { order = Some false; faces = [] };
   rest = PART;
-  at = 28;
   begins = (1, ((refl, (refl, (refl, (refl, tt)))), (refl, (refl, (refl, tt))), [], refl, (refl, refl, refl)));
-  place = refl;
   bytes = lit≤ tt;
-  count = lit≤ tt;
+  frames = lit≤ tt;
   step = refl;
 }

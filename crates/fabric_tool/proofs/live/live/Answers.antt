@@ -19,7 +19,7 @@ returns-in_default g c =
     let p = c.in-Ok.ensures.prepares in
     let s = seen c.open_in.new.self in
     record {
-      holds = stream_closed c.args.words.now c.requires.live c.legal_is_safe.ensures c.a_capture_of_packets_is_read_back.ensures c.records_come_later.ensures.nothing c.in-Ok.fabric.settings p.fabric.range
+      holds = stream_closed c.args.words.now c.requires.live c.legal_is_safe.ensures c.packets_in_order_are_read_back.ensures c.records_come_later.ensures.nothing c.in-Ok.fabric.settings p.fabric.range
           (seen c.args.depot.now) (seen c.fabric_of.new.depot) s s p.config p.uses c.in_default.field-0 (in_as c.word_at.ensures c.in_default.ensures.opens);
       touches = stream_own c.args.words.now c.requires.live _ _ _ p.uses (in_as c.word_at.ensures c.in_default.ensures.opens);
     }
@@ -34,7 +34,7 @@ returns-in-Err-open_recorded g c =
     let seen = g.D.Depot.seen in
     let p = c.in-Ok.ensures.prepares in
     record {
-      holds = not_recorded c.args.words.now c.requires.live c.legal_is_safe.ensures c.a_capture_of_packets_is_read_back.ensures c.records_come_later.ensures.nothing c.in-Ok.fabric.settings p.fabric.range
+      holds = not_recorded c.args.words.now c.requires.live c.legal_is_safe.ensures c.packets_in_order_are_read_back.ensures c.records_come_later.ensures.nothing c.in-Ok.fabric.settings p.fabric.range
           (seen c.args.depot.now) (seen c.fabric_of.new.depot) (seen c.open_in.new.self) (seen c.open_recorded.new.depot) p.config p.uses
           c.in-Ok-open_in.stream (in_as c.word_at.ensures c.in-Ok-open_in.ensures.opens) c.in-Err-open_recorded.ensures.opens;
       touches = recorded_own c.args.words.now c.requires.live _ _ _ p.uses (in_as c.word_at.ensures c.in-Ok-open_in.ensures.opens) _ c.in-Err-open_recorded.ensures.opens;
@@ -45,7 +45,7 @@ run_live-requires-clause-given g c κs within =
     let seen = g.D.Depot.seen in
     let p = c.in-Ok.ensures.prepares in
     given_as c.as_slice.ensures.value c.as_slice-2.ensures.value
-    (given_live c.args.words.now c.requires.live c.legal_is_safe.ensures c.a_capture_of_packets_is_read_back.ensures c.records_come_later.ensures.nothing c.in-Ok.fabric.settings p.fabric.range
+    (given_live c.args.words.now c.requires.live c.legal_is_safe.ensures c.packets_in_order_are_read_back.ensures c.records_come_later.ensures.nothing c.in-Ok.fabric.settings p.fabric.range
     (seen c.args.depot.now) (seen c.fabric_of.new.depot) (seen c.open_in.new.self) (seen c.open_recorded.new.depot) p.config p.uses
     c.in-Ok-open_in.stream (in_as c.word_at.ensures c.in-Ok-open_in.ensures.opens) c.in-Ok-open_recorded.recorded c.in-Ok-open_recorded.ensures.opens c.in-Ok-open_recorded.ensures.width)
 
@@ -57,7 +57,7 @@ returns g c =
     let b = seen c.run_live.new.depot in
     record {
       holds = subst (Holds (Live (live_of c.args.words.now)) old b) (sym c.lived.ensures)
-          (live_ended c.args.words.now c.requires.live c.legal_is_safe.ensures c.a_capture_of_packets_is_read_back.ensures c.records_come_later.ensures.nothing c.in-Ok.fabric.settings p.fabric.range
+          (live_ended c.args.words.now c.requires.live c.legal_is_safe.ensures c.packets_in_order_are_read_back.ensures c.records_come_later.ensures.nothing c.in-Ok.fabric.settings p.fabric.range
           old (seen c.fabric_of.new.depot) (seen c.open_in.new.self) (seen c.open_recorded.new.depot) p.config p.uses
           c.in-Ok-open_in.stream (in_as c.word_at.ensures c.in-Ok-open_in.ensures.opens) c.in-Ok-open_recorded.recorded c.in-Ok-open_recorded.ensures.opens c.in-Ok-open_recorded.ensures.width
           b c.run_live.result (lives_as c.as_slice.ensures.value c.as_slice-2.ensures.value c.run_live.ensures.runs));
