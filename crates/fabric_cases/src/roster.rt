@@ -24,7 +24,6 @@ use table_cases::zoning::is_function;
 use zone_rules::Zones;
 
 /// A roster, with its configuration and its zones.
-#[derive(Drop)]
 pub(crate) struct Roll {
     config: Config,
     zones: Zones,
@@ -32,6 +31,18 @@ pub(crate) struct Roll {
     limit: u32,
     ghost rules: { zones ≡ zones_of config },
     ghost limited: { roster.limit ≡ limit },
+}
+
+impl Drop for Roll {
+    // By hand, so that it is dropped by one call.
+    fn drop(self) {
+        let Roll {
+            config: _config,
+            zones: _zones,
+            roster: _roster,
+            limit: _,
+        } = self;
+    }
 }
 
 /// A call of a roster.
