@@ -39,6 +39,9 @@ impl Draft {
     pub(crate) fn new(alloc: Global) -> Result<Draft, NoMemory>
         ensures { IfOk result (λ d. d ≡ spec.NOTHING) }
     {
+        let zones = NamedZones::new(alloc)?;
+        let sets = NamedSets::new(alloc)?;
+        let activations = ActivationList::new(alloc)?;
         Ok(Draft {
             fcf_mac: None,
             vlan: None,
@@ -50,9 +53,9 @@ impl Draft {
             period: None,
             window: None,
             limit: None,
-            zones: NamedZones::new(alloc)?,
-            sets: NamedSets::new(alloc)?,
-            activations: ActivationList::new(alloc)?,
+            zones,
+            sets,
+            activations,
         })
     }
 
@@ -128,15 +131,17 @@ impl Draft {
     fn with_zone(self, alloc: Global, values: &[u8]) -> Result<Draft, LineError>
         ensures { Answers result (spec.with_keyword self Keyword.Zones (words values.now)) }
     {
-        let zones = with_zone(self.zones, alloc, values)?;
-        Ok(Draft { zones, ..self })
+        let mut draft = self;
+        draft.zones = with_zone(draft.zones, alloc, values)?;
+        Ok(draft)
     }
 
     fn with_set(self, alloc: Global, values: &[u8]) -> Result<Draft, LineError>
         ensures { Answers result (spec.with_keyword self Keyword.Sets (words values.now)) }
     {
-        let sets = with_set(self.sets, alloc, &self.zones, values)?;
-        Ok(Draft { sets, ..self })
+        let mut draft = self;
+        draft.sets = with_set(draft.sets, alloc, &draft.zones, values)?;
+        Ok(draft)
     }
 
     /// The configuration, with the defaults for what no line says, or none where a required key

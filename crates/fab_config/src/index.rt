@@ -10,9 +10,15 @@ use std::alloc::Global;
 use std::marker::Model;
 
 /// Distinct names, in the order of insertion.
-#[derive(Drop)]
 pub(crate) struct NameIndex {
     names: IndexSet<Vec<u8>>,
+}
+
+impl Drop for NameIndex {
+    // By hand, so that it is dropped by one call.
+    fn drop(self) {
+        let NameIndex { names: _names } = self;
+    }
 }
 
 impl Model for NameIndex {
@@ -50,9 +56,15 @@ impl NameIndex {
 }
 
 /// Distinct numbers, in the order of insertion.
-#[derive(Drop)]
 pub(crate) struct NumberIndex {
     numbers: IndexSet<u64>,
+}
+
+impl Drop for NumberIndex {
+    // By hand, so that it is dropped by one call.
+    fn drop(self) {
+        let NumberIndex { numbers: _numbers } = self;
+    }
 }
 
 impl Model for NumberIndex {

@@ -57,7 +57,7 @@ pub type ActivationList = OwnedList<Activation>;
 
 /// The configuration, each value in its range. Period and window are milliseconds; `limit` is the
 /// most logins at once.
-#[derive(Debug, Drop)]
+#[derive(Debug)]
 pub struct Config {
     pub switch: Wwn,
     pub fcf_mac: Mac,
@@ -72,6 +72,27 @@ pub struct Config {
     pub zones: ZoneList,
     pub sets: SetList,
     pub activations: ActivationList,
+}
+
+impl Drop for Config {
+    // By hand, so that it is dropped by one call.
+    fn drop(self) {
+        let Config {
+            switch: _,
+            fcf_mac: _,
+            fc_map: _,
+            vlan: _,
+            domain: _,
+            pool: _,
+            priority: _,
+            period: _,
+            window: _,
+            limit: _,
+            zones: _zones,
+            sets: _sets,
+            activations: _activations,
+        } = self;
+    }
 }
 
 impl Model for Config {
