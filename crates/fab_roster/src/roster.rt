@@ -16,7 +16,6 @@ use std::alloc::Global;
 use std::marker::Model;
 
 /// Who is live, and what the addresses of the pool were used for.
-#[derive(Drop)]
 pub struct Roster {
     pub(crate) lowest: u32,
     pub(crate) count: u32,
@@ -28,6 +27,24 @@ pub struct Roster {
     pub(crate) voices: KeepClock,
     pub(crate) registry: Registry,
     pub(crate) watchers: Watchers,
+}
+
+impl Drop for Roster {
+    // By hand, so that it is dropped by one call.
+    fn drop(self) {
+        let Roster {
+            lowest: _,
+            count: _,
+            limit: _,
+            period: _,
+            clock: _,
+            pool: _pool,
+            logins: _logins,
+            voices: _voices,
+            registry: _registry,
+            watchers: _watchers,
+        } = self;
+    }
 }
 
 impl Model for Roster {

@@ -80,7 +80,7 @@ fn unlist(owners: &mut Vec<Owner>, line: &mut Vec<Release>, place: u32, last: Ho
 }
 
 /// The addresses that may be granted, in ascending order.
-#[derive(Debug, Drop)]
+#[derive(Debug)]
 pub struct Pool {
     first: u32,
     holders: Vec<Holder>,
@@ -89,6 +89,19 @@ pub struct Pool {
     // The places whose login ended, by name and by end.
     owners: Vec<Owner>,
     line: Vec<Release>,
+}
+
+impl Drop for Pool {
+    // By hand, so that it is dropped by one call.
+    fn drop(self) {
+        let Pool {
+            first: _,
+            holders: _holders,
+            unused: _unused,
+            owners: _owners,
+            line: _line,
+        } = self;
+    }
 }
 
 impl Model for Pool {

@@ -16,7 +16,7 @@ use std::marker::Model;
 use std::sync::ledger::Ledger;
 
 /// When each voice was last heard. No voice comes twice.
-#[derive(Debug, Drop)]
+#[derive(Debug)]
 pub struct KeepClock {
     order: ByDue,
     room: u32,
@@ -25,6 +25,19 @@ pub struct KeepClock {
     by_voice: Vec<usize>,
     // Those places in descending order of the deadlines, so that the first one is the last.
     by_due: Vec<usize>,
+}
+
+impl Drop for KeepClock {
+    // By hand, so that it is dropped by one call.
+    fn drop(self) {
+        let KeepClock {
+            order: _,
+            room: _,
+            records: _records,
+            by_voice: _by_voice,
+            by_due: _by_due,
+        } = self;
+    }
 }
 
 impl Model for KeepClock {

@@ -14,7 +14,7 @@ use std::alloc::Global;
 use std::marker::Model;
 
 /// The live logins, up to a limit. No address and no port name comes twice.
-#[derive(Debug, Drop)]
+#[derive(Debug)]
 pub struct LoginTable {
     limit: u32,
     logins: Slab<Login>,
@@ -22,6 +22,19 @@ pub struct LoginTable {
     by_address: Vec<usize>,
     by_name: Vec<usize>,
     by_enode: Vec<usize>,
+}
+
+impl Drop for LoginTable {
+    // By hand, so that it is dropped by one call.
+    fn drop(self) {
+        let LoginTable {
+            limit: _,
+            logins: _logins,
+            by_address: _by_address,
+            by_name: _by_name,
+            by_enode: _by_enode,
+        } = self;
+    }
 }
 
 impl Model for LoginTable {

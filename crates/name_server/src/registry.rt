@@ -31,7 +31,7 @@ pub struct Change {
 
 /// What is registered of the N_Ports that are logged in, up to a number of them. No address comes
 /// twice.
-#[derive(Debug, Drop)]
+#[derive(Debug)]
 pub struct Registry {
     room: u32,
     entries: Slab<Entry>,
@@ -39,6 +39,18 @@ pub struct Registry {
     index: Vec<Placed>,
     // The places of the entries, by type.
     types: TypeRows,
+}
+
+impl Drop for Registry {
+    // By hand, so that it is dropped by one call.
+    fn drop(self) {
+        let Registry {
+            room: _,
+            entries: _entries,
+            index: _index,
+            types: _types,
+        } = self;
+    }
 }
 
 impl Model for Registry {

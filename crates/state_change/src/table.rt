@@ -14,12 +14,23 @@ use std::marker::Model;
 use zone_rules::Zones;
 
 /// The watchers, as many as there is room for. No address comes twice.
-#[derive(Debug, Drop)]
+#[derive(Debug)]
 pub struct Watchers {
     room: u32,
     watchers: Slab<Watcher>,
     // Their places, by address.
     places: Vec<usize>,
+}
+
+impl Drop for Watchers {
+    // By hand, so that it is dropped by one call.
+    fn drop(self) {
+        let Watchers {
+            room: _,
+            watchers: _watchers,
+            places: _places,
+        } = self;
+    }
 }
 
 impl Model for Watchers {

@@ -15,13 +15,25 @@ use std::snapshot::Snapshot;
 
 /// The activations of a configuration, with a row of bits over the zones for each name
 /// and each zone set. The zones and the zone sets themselves are read by contracts alone.
-#[derive(Drop)]
 pub struct Zones {
     zones: Snapshot<ZoneList>,
     sets: Snapshot<SetList>,
     activations: ActivationList,
     names: NameRows,
     set_rows: SetRows,
+}
+
+impl Drop for Zones {
+    // By hand, so that it is dropped by one call.
+    fn drop(self) {
+        let Zones {
+            zones: _zones,
+            sets: _sets,
+            activations: _activations,
+            names: _names,
+            set_rows: _set_rows,
+        } = self;
+    }
 }
 
 impl Model for Zones {
