@@ -14,7 +14,7 @@ pub struct DeskSlot {
 }
 
 /// Names with two counts each, and slots of them.
-#[derive(Debug, Drop)]
+#[derive(Debug)]
 pub struct Desk {
     pub names: Vec<String>,
     pub reads: Vec<u64>,
@@ -23,6 +23,18 @@ pub struct Desk {
     ghost reads_paired: { length reads.items ≡ length names.items },
     ghost writes_paired: { length writes.items ≡ length names.items },
     ghost placed: { ArePlaced names.items slots.items },
+}
+
+impl Drop for Desk {
+    // By hand, so that it is dropped by one call.
+    fn drop(self) {
+        let Desk {
+            names: _names,
+            reads: _reads,
+            writes: _writes,
+            slots: _slots,
+        } = self;
+    }
 }
 
 /// The first place of a name.

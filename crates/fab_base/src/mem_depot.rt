@@ -12,7 +12,7 @@ use std::alloc::Global;
 ///
 /// `fetch` takes all that fits and `put` appends all. A call fails where `fail_call` was given its
 /// number, where an input that isn't stored is opened, or where memory or slot numbers run out.
-#[derive(Debug, Drop)]
+#[derive(Debug)]
 pub struct MemDepot {
     alloc: Global,
     desk: Desk,
@@ -20,6 +20,19 @@ pub struct MemDepot {
     calls: u64,
     failing: Vec<u64>,
     ghost paired: { length contents.items ≡ length desk.names.items },
+}
+
+impl Drop for MemDepot {
+    // By hand, so that it is dropped by one call.
+    fn drop(self) {
+        let MemDepot {
+            alloc: _,
+            desk: _desk,
+            contents: _contents,
+            calls: _,
+            failing: _failing,
+        } = self;
+    }
 }
 
 // Whether the call that comes now is to fail. It counts the call.

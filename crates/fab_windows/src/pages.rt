@@ -19,10 +19,20 @@ use std::alloc::Global;
 use std::thread::Threads;
 
 /// What is still to be written: lines of the journal, and records of the output of each port.
-#[derive(Debug, Drop)]
+#[derive(Debug)]
 pub struct Pages {
     pub lines: Vec<u8>,
     pub records: Vec<Vec<u8>>,
+}
+
+impl Drop for Pages {
+    // By hand, so that it is dropped by one call.
+    fn drop(self) {
+        let Pages {
+            lines: _lines,
+            records: _records,
+        } = self;
+    }
 }
 
 impl Pages {

@@ -26,11 +26,22 @@ use std::alloc::Global;
 use std::marker::Model;
 
 /// A bridge: port 1 is the forwarder's, the others are those of ENodes.
-#[derive(Debug, Drop)]
+#[derive(Debug)]
 pub struct Snoop {
     forwarder: Forwarder,
     homes: Homes,
     bindings: Bindings,
+}
+
+impl Drop for Snoop {
+    // By hand, so that it is dropped by one call.
+    fn drop(self) {
+        let Snoop {
+            forwarder: _,
+            homes: _homes,
+            bindings: _bindings,
+        } = self;
+    }
 }
 
 impl Model for Snoop {

@@ -16,7 +16,6 @@ use std::{fs, io};
 /// Real files under the words of a command. Where two of the names are one regular file, or one is
 /// the standard output, no output is opened. Outputs are emptied once all of them are open: before
 /// the first byte is written.
-#[derive(Drop)]
 pub struct FileDepot<'a, R: Files> {
     rt: &'a R,
     alloc: Global,
@@ -26,6 +25,21 @@ pub struct FileDepot<'a, R: Files> {
     // whether the outputs were emptied
     emptied: bool,
     trouble: Option<Trouble>,
+}
+
+impl<'a, R: Files> Drop for FileDepot<'a, R> {
+    // By hand, so that it is dropped by one call.
+    fn drop(self) {
+        let FileDepot {
+            rt: _,
+            alloc: _,
+            desk: _desk,
+            files: _files,
+            mix: _,
+            emptied: _,
+            trouble: _trouble,
+        } = self;
+    }
 }
 
 impl<'a, R: Files> FileDepot<'a, R> {
