@@ -13,7 +13,6 @@ use name_server::Registry;
 use std::alloc::Global;
 
 /// One table of each kind, where it was opened.
-#[derive(Drop)]
 pub struct Tables {
     pool: Option<Pool>,
     logins: Option<Logins>,
@@ -21,6 +20,20 @@ pub struct Tables {
     registry: Option<Registry>,
     zoning: Option<Zoning>,
     watched: Option<Watched>,
+}
+
+impl Drop for Tables {
+    // By hand, so that it is dropped by one call.
+    fn drop(self) {
+        let Tables {
+            pool: _pool,
+            logins: _logins,
+            voices: _voices,
+            registry: _registry,
+            zoning: _zoning,
+            watched: _watched,
+        } = self;
+    }
 }
 
 impl Tables {

@@ -40,31 +40,36 @@ fn asked(pool: &mut Pool, line: &[u8], out: &mut Vec<u8>) -> Result<(), CaseFaul
     ensures grows { Grows out.old.items out.new.items }
 {
     match name_at(line, 1) {
-        "find" => end_address(out, pool.find(name(line, 2)?, moment(line, 3)?)),
-        "free" => end_bool(
-            out,
-            pool.is_free(address(line, 2)?, name(line, 3)?, moment(line, 4)?),
-        ),
-        "take" => take(
-            pool,
-            address(line, 2)?,
-            name(line, 3)?,
-            moment(line, 4)?,
-            out,
-        ),
+        "find" => find(pool, line, out),
+        "free" => free(pool, line, out),
+        "take" => take(pool, line, out),
         _ => Err(CaseFault::Words),
     }
 }
 
-fn take(
-    pool: &mut Pool,
-    address: FcId,
-    name: Wwn,
-    now: Moment,
-    out: &mut Vec<u8>,
-) -> Result<(), CaseFault>
+fn find(pool: &Pool, line: &[u8], out: &mut Vec<u8>) -> Result<(), CaseFault>
     ensures grows { Grows out.old.items out.new.items }
 {
+    let name = name(line, 2)?;
+    let now = moment(line, 3)?;
+    end_address(out, pool.find(name, now))
+}
+
+fn free(pool: &Pool, line: &[u8], out: &mut Vec<u8>) -> Result<(), CaseFault>
+    ensures grows { Grows out.old.items out.new.items }
+{
+    let address = address(line, 2)?;
+    let name = name(line, 3)?;
+    let now = moment(line, 4)?;
+    end_bool(out, pool.is_free(address, name, now))
+}
+
+fn take(pool: &mut Pool, line: &[u8], out: &mut Vec<u8>) -> Result<(), CaseFault>
+    ensures grows { Grows out.old.items out.new.items }
+{
+    let address = address(line, 2)?;
+    let name = name(line, 3)?;
+    let now = moment(line, 4)?;
     if !pool.is_free(address, name, now) {
         return Err(CaseFault::Refused);
     }

@@ -25,27 +25,20 @@ pub(crate) fn registry_call(
     ensures grows { Grows out.old.items out.new.items }
 {
     if name_at(line, 1) == "open" {
-        let first = address(line, 2)?;
-        let second = address(line, 4)?;
-        if first.value() == second.value() {
-            return Err(CaseFault::Refused);
-        }
-        let registry = opened(alloc, first, name(line, 3)?, second, name(line, 5)?)?;
-        return open(held, registry, out);
+        return open(held, opened(alloc, line)?, out);
     }
     asked(alloc, open_in(held)?, line, out)
 }
 
-// A registry of two N_Ports, with the names of their nodes.
-fn opened(
-    alloc: Global,
-    first: FcId,
-    first_node: Wwn,
-    second: FcId,
-    second_node: Wwn,
-) -> Result<Registry, NoMemory>
-    requires { first ≢ second }
-{
+// `open ADDRESS NODE-NAME ADDRESS NODE-NAME`: a registry of two N_Ports.
+fn opened(alloc: Global, line: &[u8]) -> Result<Registry, CaseFault> {
+    let first = address(line, 2)?;
+    let first_node = name(line, 3)?;
+    let second = address(line, 4)?;
+    let second_node = name(line, 5)?;
+    if first.value() == second.value() {
+        return Err(CaseFault::Refused);
+    }
     let mut registry = Registry::new(alloc, 2)?;
     registry.enter(first, first_node);
     registry.enter(second, second_node);
@@ -64,16 +57,37 @@ fn asked(
         "forget" => end_bool(out, registry.forget(address(line, 2)?)),
         "types" => said_types(out, registry.types(address(line, 2)?)),
         "node" => end_name(out, registry.node_name(address(line, 2)?)),
-        "register" => {
-            let payload = hex(alloc, line, 3)?;
-            register(registry, address(line, 2)?, payload.view(), out)
-        }
-        "query" => {
-            let payload = hex(alloc, line, 7)?;
-            query(alloc, registry, line, payload.view(), out)
-        }
+        "register" => register_call(alloc, registry, line, out),
+        "query" => query_call(alloc, registry, line, out),
         _ => Err(CaseFault::Words),
     }
+}
+
+// `register ADDRESS PAYLOAD`.
+fn register_call(
+    alloc: Global,
+    registry: &mut Registry,
+    line: &[u8],
+    out: &mut Vec<u8>,
+) -> Result<(), CaseFault>
+    ensures grows { Grows out.old.items out.new.items }
+{
+    let asker = address(line, 2)?;
+    let payload = hex(alloc, line, 3)?;
+    register(registry, asker, payload.view(), out)
+}
+
+// `query LOW NAME HIGH NAME FABRIC-PORT-NAME PAYLOAD`.
+fn query_call(
+    alloc: Global,
+    registry: &Registry,
+    line: &[u8],
+    out: &mut Vec<u8>,
+) -> Result<(), CaseFault>
+    ensures grows { Grows out.old.items out.new.items }
+{
+    let payload = hex(alloc, line, 7)?;
+    query(alloc, registry, line, payload.view(), out)
 }
 
 // Who is notified before a registration, and then its outcome.
@@ -110,7 +124,7 @@ fn register(
     }
 }
 
-// `query LOW NAME HIGH NAME FABRIC-PORT-NAME PAYLOAD`: the answer to the second of two N_Ports.
+// The answer to the second of two N_Ports.
 fn query(
     alloc: Global,
     registry: &Registry,

@@ -18,11 +18,21 @@ use std::alloc::Global;
 use zone_rules::Zones;
 
 /// The zones, zone sets and activations so far.
-#[derive(Drop)]
 pub(crate) struct Drawn {
     zones: ZoneList,
     sets: SetList,
     activations: ActivationList,
+}
+
+impl Drop for Drawn {
+    // By hand, so that it is dropped by one call.
+    fn drop(self) {
+        let Drawn {
+            zones: _zones,
+            sets: _sets,
+            activations: _activations,
+        } = self;
+    }
 }
 
 /// Watchers, with how many there may be, and are at most.
@@ -71,6 +81,21 @@ impl Drawn {
     fn built(&self, alloc: Global) -> Result<Zones, NoMemory> {
         Zones::build(alloc, &self.zones, &self.sets, &self.activations)
     }
+
+    fn add_zone(&mut self, alloc: Global, line: &[u8]) -> Result<(), CaseFault> {
+        let zone = zone(alloc, line)?;
+        Ok(self.zones.push(alloc, zone)?)
+    }
+
+    fn add_set(&mut self, alloc: Global, line: &[u8]) -> Result<(), CaseFault> {
+        let set = set(alloc, line)?;
+        Ok(self.sets.push(alloc, set)?)
+    }
+
+    fn add_activation(&mut self, alloc: Global, line: &[u8]) -> Result<(), CaseFault> {
+        let activation = activation(line)?;
+        Ok(self.activations.push(alloc, activation)?)
+    }
 }
 
 impl Zoning {
@@ -78,29 +103,31 @@ impl Zoning {
         ensures grows { Grows out.old.items out.new.items }
     {
         match name_at(line, 1) {
-            "zone" => self.drawn.zones.push(alloc, zone(alloc, line)?)?,
-            "set" => self.drawn.sets.push(alloc, set(alloc, line)?)?,
-            "activation" => self.drawn.activations.push(alloc, activation(line)?)?,
-            "build" => self.built = self.drawn.built(alloc)?,
-            _ => return self.found(line, out),
+            "zone" => self.drawn.add_zone(alloc, line)?,
+            "set" => self.drawn.add_set(alloc, line)?,
+            "activation" => self.drawn.add_activation(alloc, line)?,
+            "build" => self.build(alloc)?,
+            "joined" => return joined(&self.built, line, out),
+            "next" => return end_moment(out, self.built.next_change(moment(line, 2)?)),
+            _ => return Err(CaseFault::Words),
         }
         end(out, "drawn")
     }
 
-    // `joined AT NAME NAME`, `next AFTER`.
-    fn found(&self, line: &[u8], out: &mut Vec<u8>) -> Result<(), CaseFault>
-        ensures grows { Grows out.old.items out.new.items }
-    {
-        match name_at(line, 1) {
-            "joined" => end_bool(
-                out,
-                self.built
-                    .joined(moment(line, 2)?, name(line, 3)?, name(line, 4)?),
-            ),
-            "next" => end_moment(out, self.built.next_change(moment(line, 2)?)),
-            _ => Err(CaseFault::Words),
-        }
+    fn build(&mut self, alloc: Global) -> Result<(), NoMemory> {
+        self.built = self.drawn.built(alloc)?;
+        Ok(())
     }
+}
+
+// `joined AT NAME NAME`.
+fn joined(zones: &Zones, line: &[u8], out: &mut Vec<u8>) -> Result<(), CaseFault>
+    ensures grows { Grows out.old.items out.new.items }
+{
+    let at = moment(line, 2)?;
+    let first = name(line, 3)?;
+    let second = name(line, 4)?;
+    end_bool(out, zones.joined(at, first, second))
 }
 
 // `zone NAME MEMBER..`.
@@ -187,10 +214,7 @@ impl Watched {
         ensures grows { Grows out.old.items out.new.items }
     {
         match name_at(line, 1) {
-            "set" => {
-                self.set(address(line, 2)?, name(line, 3)?, octet(line, 4)?)?;
-                end(out, "set")
-            }
+            "set" => self.set_by(line, out),
             "forget" => end_bool(out, self.watchers.forget(address(line, 2)?)),
             "function" => end_number(out, u64::from(self.watchers.function_of(address(line, 2)?))),
             _ => match zoning {
@@ -198,6 +222,17 @@ impl Watched {
                 None => Err(CaseFault::Closed),
             },
         }
+    }
+
+    // `set ADDRESS NAME FUNCTION`.
+    fn set_by(&mut self, line: &[u8], out: &mut Vec<u8>) -> Result<(), CaseFault>
+        ensures grows { Grows out.old.items out.new.items }
+    {
+        let address = address(line, 2)?;
+        let name = name(line, 3)?;
+        let function = octet(line, 4)?;
+        self.set(address, name, function)?;
+        end(out, "set")
     }
 
     fn set(&mut self, address: FcId, name: Wwn, function: u8) -> Result<(), CaseFault> {
@@ -226,25 +261,35 @@ fn end_recipient(
     ensures grows { Grows out.old.items out.new.items }
 {
     match name_at(line, 1) {
-        "told" => end_address(
-            out,
-            watchers.next_recipient(
-                zones,
-                moment(line, 2)?,
-                name(line, 3)?,
-                hexadecimal(line, 4)?,
-            ),
-        ),
-        "changed" => end_address(
-            out,
-            watchers.next_changed(
-                zones,
-                moment(line, 2)?,
-                moment(line, 3)?,
-                name(line, 4)?,
-                hexadecimal(line, 5)?,
-            ),
-        ),
+        "told" => told(watchers, zones, line, out),
+        "changed" => changed(watchers, zones, line, out),
         _ => Err(CaseFault::Words),
     }
+}
+
+fn told(watchers: &Watchers, zones: &Zones, line: &[u8], out: &mut Vec<u8>) -> Result<(), CaseFault>
+    ensures grows { Grows out.old.items out.new.items }
+{
+    let at = moment(line, 2)?;
+    let affected = name(line, 3)?;
+    let from = hexadecimal(line, 4)?;
+    end_address(out, watchers.next_recipient(zones, at, affected, from))
+}
+
+fn changed(
+    watchers: &Watchers,
+    zones: &Zones,
+    line: &[u8],
+    out: &mut Vec<u8>,
+) -> Result<(), CaseFault>
+    ensures grows { Grows out.old.items out.new.items }
+{
+    let before = moment(line, 2)?;
+    let at = moment(line, 3)?;
+    let affected = name(line, 4)?;
+    let from = hexadecimal(line, 5)?;
+    end_address(
+        out,
+        watchers.next_changed(zones, before, at, affected, from),
+    )
 }
