@@ -1,8 +1,7 @@
 //! Captures, as pcap and as pcapng, read from a depot of one file whose fetches give a few bytes.
 use crate::keys;
-use case_lines::{bytes_of, number_of, put, word_at};
+use case_lines::{OpenFiles, bytes_of, number_of, put, word_at};
 use fab_base::{Caught, Moment, NoMemory};
-use open_files::OpenFiles;
 use pcap_file::{Budget, CaptureHead, Reader, write_head, write_record};
 use pcapng_file::{NgRecord, NgRecords, NgStream, classic_capture, read_ng};
 use std::alloc::{AllocError, Global};

@@ -65,13 +65,13 @@ length-records_of n v = length-ports (port_records v) 0 n
 -- ---- the records of one packet
 
 module _ (r : NgRecord) where
-  abbrev own : ℕ → List Record
+  abbrev pub own : ℕ → List Record
   own q = port_records (r ∷ []) q
 
-  own_is : (q : ℕ) → r.face ≡ q → own q ≡ recorded r ∷ []
+  pub own_is : (q : ℕ) → r.face ≡ q → own q ≡ recorded r ∷ []
   own_is q e = ap (λ (b : Bool). map recorded (cond b (r ∷ []) [])) (eq-eqb r.face q e)
 
-  other_is : (q : ℕ) → r.face ≢ q → own q ≡ []
+  pub other_is : (q : ℕ) → r.face ≢ q → own q ≡ []
   other_is q ne = ap (λ (b : Bool). map recorded (cond b (r ∷ []) [])) (ne_eqb r.face q ne)
 
   module _ (c : Settings) (w : ℕ) (at : window_start c r.moment ≡ w) where

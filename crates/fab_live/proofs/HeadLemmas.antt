@@ -9,6 +9,7 @@ use Rattle.fab_base.proofs.EndingLemmas.{uses_none, uses_refused, uses_then, use
 use Rattle.fab_config.specs.Settings.{Settings}
 use Rattle.pcap_file.specs.Capture.{head_bytes}
 use Rattle.fab_policy.specs.Text.{text, head_line}
+use Rattle.fab_policy.proofs.GrowLemmas.{nothing_is_written}
 use Rattle.fab_base.specs.Slots.{name_of, NameIn}
 use Rattle.run_files.specs.Outputs.{PutsEach}
 use Rattle.run_files.specs.Pages.{piece_at}
@@ -108,10 +109,10 @@ module _ (laws : Laws) (c : Settings) (f : LiveSlots) (a : Seen) (g : AreLive a 
       came_b told q lt = moved b (sym (in_b each q lt)) (each.all told q lt [] (came told q lt) ∙ ap Some (heads q lt ∙ sym (append-nil head_bytes)))
 
       text_is : text [] ≡ [] ++ p.lines
-      text_is = laws.nothing_written.0 ∙ sym p_lines
+      text_is = nothing_is_written.0 ∙ sym p_lines
 
       captures_are : (q : ℕ) → q < n → captures c n [] q ≡ [] ++ piece_at p.pieces q
-      captures_are q lt = laws.nothing_written.1 c n (q + 1) ∙ sym (p_pieces q lt)
+      captures_are q lt = nothing_is_written.1 c n (q + 1) ∙ sym (p_pieces q lt)
 
       module _ {z : Result (Unit {0}) Failed} (w : Writes f.journal f.outs p.lines p.pieces b d z) where
         second_uses : Uses Nothing F (end_by (λ e. Write) z) b d

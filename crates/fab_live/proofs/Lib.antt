@@ -1,5 +1,5 @@
 pub mod ArrivingLemmas
-pub mod RunLemmas
+pub mod NothingLemmas
 pub mod TakeLemmas
 pub mod WriteLemmas
 pub mod RunningLemmas
@@ -7,3 +7,5 @@ pub mod HandlingLemmas
 pub mod LoopLemmas
 pub mod BeginLemmas
 pub mod HeadLemmas
+pub mod FromLemmas
+pub mod ReadyLemmas

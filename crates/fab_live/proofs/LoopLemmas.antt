@@ -24,7 +24,10 @@ use Rattle.fab_live.specs.declared.live.Live.{Live}
 use Rattle.fab_live.specs.declared.fault.LiveFault.{LiveFault}
 use Rattle.fab_live.specs.declared.fault.LiveFault.TheVariants as fault
 use Rattle.fab_live.specs.Files.{LiveSlots, LiveNames, live_end}
-use Rattle.fab_live.specs.Live.{AreGiven, AreOpen, StartsFiles, Running, HoldLive, LeftWhole, LeftBroken, LeavesPacket, LiveEnds, LiveFinished, LiveRuns, Begins, BeginsWithin, fault_of}
+use Rattle.fab_live.specs.Ready.{HoldLiveOn, LeavesPacket, Running, nothing_of_live}
+use Rattle.fab_live.specs.Live.{AreGiven, AreOpen, StartsFiles, LeftWhole, LeftBroken, LiveEnds, LiveFinished, LiveRuns, Begins, BeginsWithin, fault_of}
+use Rattle.fab_windows.proofs.SofarLemmas.{entries_are_few}
+use Rattle.fab_live.proofs.NothingLemmas.{left_broken_is, left_whole_is}
 use Rattle.fab_live.proofs.RunningLemmas.{left_whole, entries_there}
 use Rattle.fab_live.proofs.WriteLemmas.{moved, in_before, written_before, live_stays}
 
@@ -34,7 +37,7 @@ pub record Looping (c : Settings) (f : LiveSlots) (stream : ℕ) (budget : Budge
   pub given : AreOpen start stream f
   pub packets : List NgRecord
   pub entry_list : Journal
-  pub running : Running c f packets entry_list l d
+  pub running : Running c (nothing_of_live c (length f.outs)) f packets entry_list l d
   pub streamed : Streamed stream start budget (stream_stand p d) packets
   pub uses : Uses (Only (start.name stream)) (LiveNames start f) Said start d
 
@@ -91,45 +94,49 @@ module _ (c : Settings) (f : LiveSlots) (stream : ℕ) (budget : Budget) (start 
     told_d : IsTrue start.told → IsTrue d.told
     told_d told = subst IsTrue (sym g.uses.touches.told) told
 
-    hold' : IsTrue d'.told → HoldLive c d' f g.packets g.entry_list
+    hold' : IsTrue d'.told → HoldLiveOn c (nothing_of_live c (length f.outs)) d' f g.packets g.entry_list
     hold' told =
         let h = g.running.hold (subst IsTrue k.told told) in
         record {
           wholes = record {
-            lines_ = moved d' (sym (stays_named O O d d' k f.journal g.running.files.files.journal_)) (r.reads.files (d.name f.journal) ∙ h.wholes.lines_);
-            records = λ q lt. moved d' (sym (same_name O O d d' k f.outs g.running.files.files.outs_ q lt)) (r.reads.files _ ∙ h.wholes.records q lt);
+            lines_ = moved d' (sym (stays_named O O d d' k f.journal g.running.ready.files.files.journal_)) (r.reads.files (d.name f.journal) ∙ h.wholes.lines_);
+            records = λ q lt. moved d' (sym (same_name O O d d' k f.outs g.running.ready.files.files.outs_ q lt)) (r.reads.files _ ∙ h.wholes.records q lt);
           };
-          came = λ q lt. moved d' (sym (same_name O O d d' k f.ins g.running.files.ins_ q lt)) (r.reads.files _ ∙ h.came q lt);
+          came = λ q lt. moved d' (sym (same_name O O d d' k f.ins g.running.ready.files.ins_ q lt)) (r.reads.files _ ∙ h.came q lt);
         }
 
-    pub running_read : Running c f g.packets g.entry_list l d'
-    running_read = record {
-      files = live_stays f O O d d' g.running.files k;
-      width = g.running.width;
-      few = g.running.few;
-      sofar = g.running.sofar;
-      faces = g.running.faces;
-      span = g.running.span;
-      kept = g.running.kept;
-      first = g.running.first;
-      greatest = g.running.greatest;
-      range = g.running.range;
-      clock = g.running.clock;
-      size = g.running.size;
-      counts = g.running.counts;
-      frames = g.running.frames;
-      counted = g.running.counted;
-      entries = g.running.entries;
-      nothing = g.running.nothing;
-      pages = g.running.pages;
-      hold = hold';
-    }
+    pub running_read : Running c (nothing_of_live c (length f.outs)) f g.packets g.entry_list l d'
+    running_read =
+        let y = g.running.ready in
+        record {
+          ready = record {
+            files = live_stays f O O d d' y.files k;
+            width = y.width;
+            few = y.few;
+            count = y.count;
+            events = y.events;
+            outs = y.outs;
+            range = y.range;
+            clock = y.clock;
+            size = y.size;
+            nothing = y.nothing;
+            pages = y.pages;
+          };
+          goes = g.running.goes;
+          faces = g.running.faces;
+          span = g.running.span;
+          kept = g.running.kept;
+          first = g.running.first;
+          frames = g.running.frames;
+          entries = g.running.entries;
+          hold = hold';
+        }
 
     pub uses' : (end : End) → CountsRead (d.name stream) end d d' → Uses (Only (start.name stream)) (LiveNames start f) end start d'
     uses' end counts = reads_on f stream start g.given d g.uses d' (uses_read (d.name stream) end d d' r.reads counts)
 
     abbrev left : LeftWhole c d' f g.packets
-    left = left_whole c f g.packets g.entry_list l d' running_read
+    left = left_whole_is c d' f g.packets (left_whole c (nothing_of_live c (length f.outs)) f g.packets g.entry_list l d' running_read)
 
     pub begins_here : IsTrue start.told → Begins g.packets (start.left stream)
     begins_here told = (p.here.section, p.held ++ d.left stream, g.streamed.begins told)
@@ -142,7 +149,7 @@ module _ (c : Settings) (f : LiveSlots) (stream : ℕ) (budget : Budget) (start 
         let end = streamed_end stream start d d' budget p p' g.packets g.streamed (told_d (Ok None) r) r told in
         let begun = g.streamed.begins told in
         let short = parts_long begun.0 before_all g.packets (start.left stream) p.here.section (p.held ++ d.left stream) begun.1 in
-        let few = entries_there c f g.packets g.entry_list l d g.running in
+        let few = entries_there entries_are_few c (nothing_of_live c (length f.outs)) f g.packets g.entry_list l d g.running in
         let told_entries = g.running.entries in
         record {
           packets = g.packets;
@@ -152,7 +159,7 @@ module _ (c : Settings) (f : LiveSlots) (stream : ℕ) (budget : Budget) (start 
           left = left (Ok None) r;
           frames = g.running.frames;
           entries = omega (arith, end.1.0, short, few, told_entries, limited);
-          counted = g.running.counted;
+          counted = g.running.goes.running.counted;
         }
 
     pub ended : LiveRuns c budget stream f start d' (Ok l.done)
@@ -195,7 +202,7 @@ module _ (c : Settings) (f : LiveSlots) (stream : ℕ) (budget : Budget) (start 
     pub kept_here : IsPacketKept x
     kept_here = r.kept.0
 
-    pub running_here : Running c f g.packets g.entry_list l d'
+    pub running_here : Running c (nothing_of_live c (length f.outs)) f g.packets g.entry_list l d'
     running_here = running_read (Ok (Some x)) r
 
     streamed' : Streamed stream start budget (stream_stand p' d') (g.packets ++ x ∷ [])
@@ -222,23 +229,23 @@ module _ (c : Settings) (f : LiveSlots) (stream : ℕ) (budget : Budget) (start 
       ends = λ told. (g.packets, (begins_here (Ok (Some x)) r told, x, begins_within told, refl, le), left (Ok (Some x)) r);
     }
 
-    refused_ends : x.face < length f.outs → (d'' : Seen) (e : LiveFault) → LeavesPacket c f g.packets x d'' e → IsTrue start.told → LiveEnds c budget f (start.left stream) d'' (Err e)
-    refused_ends face d'' fault.Write left told = (g.packets ++ x ∷ [], begins_there told, left)
-    refused_ends face d'' fault.Memory left told = (g.packets, begins_here (Ok (Some x)) r told, inl left)
-    refused_ends face d'' (fault.Limit limits.Span) left told = (g.packets, (begins_here (Ok (Some x)) r told, x, begins_within told, face, left.1), left.0)
+    refused_ends : x.face < length f.outs → (d'' : Seen) (e : LiveFault) → LeavesPacket c (nothing_of_live c (length f.outs)) f g.packets x d'' e → IsTrue start.told → LiveEnds c budget f (start.left stream) d'' (Err e)
+    refused_ends face d'' fault.Write left told = (g.packets ++ x ∷ [], begins_there told, left_broken_is c d'' f (g.packets ++ x ∷ []) left)
+    refused_ends face d'' fault.Memory left told = (g.packets, begins_here (Ok (Some x)) r told, inl (left_whole_is c d'' f g.packets left))
+    refused_ends face d'' (fault.Limit limits.Span) left told = (g.packets, (begins_here (Ok (Some x)) r told, x, begins_within told, face, left.1), left_whole_is c d'' f g.packets left.0)
     refused_ends face d'' (fault.Limit limits.Bytes) left told = absurd left
     refused_ends face d'' (fault.Limit limits.Frames) left told = absurd left
     refused_ends face d'' (fault.Block at why) left told = absurd left
     refused_ends lt d'' (fault.Port face) left told = absurd left
     refused_ends face d'' fault.Read left told = absurd left
 
-    pub refused : x.face < length f.outs → (d'' : Seen) (e : LiveFault) → Uses Nothing (LiveNames d' f) (live_end e) d' d'' → LeavesPacket c f g.packets x d'' e → LiveRuns c budget stream f start d'' (Err e)
+    pub refused : x.face < length f.outs → (d'' : Seen) (e : LiveFault) → Uses Nothing (LiveNames d' f) (live_end e) d' d'' → LeavesPacket c (nothing_of_live c (length f.outs)) f g.packets x d'' e → LiveRuns c budget stream f start d'' (Err e)
     refused face d'' e u left = record {
       uses = writes_on f stream start g.given d' there d'' u;
       ends = refused_ends face d'' e left;
     }
 
-    pub looping_on : (d'' : Seen) (l' : Live) (K : Journal) → Uses Nothing (LiveNames d' f) Said d' d'' → Running c f (g.packets ++ x ∷ []) K l' d''
+    pub looping_on : (d'' : Seen) (l' : Live) (K : Journal) → Uses Nothing (LiveNames d' f) Said d' d'' → Running c (nothing_of_live c (length f.outs)) f (g.packets ++ x ∷ []) K l' d''
         → Looping c f stream budget start l' p' d''
     looping_on d'' l' K u R =
         let same = (writing_touches (LiveNames d' f) d' d'' u).left stream (input_there f stream start g.given d' there) (apart_there f stream start g.given d' there) in
@@ -254,7 +261,7 @@ module _ (c : Settings) (f : LiveSlots) (stream : ℕ) (budget : Budget) (start 
 -- ---- before the first packet
 
 module _ (c : Settings) (f : LiveSlots) (stream : ℕ) (budget : Budget) (start : Seen) (open_ : AreOpen start stream f) where
-  pub looping_first : (l : Live) (p : Streaming) → p ≡ streaming [] 0 before_all budget → Running c f [] [] l start → Looping c f stream budget start l p start
+  pub looping_first : (l : Live) (p : Streaming) → p ≡ streaming [] 0 before_all budget → Running c (nothing_of_live c (length f.outs)) f [] [] l start → Looping c f stream budget start l p start
   looping_first l p is R = record {
     given = open_;
     packets = [];

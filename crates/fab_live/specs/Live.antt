@@ -1,5 +1,5 @@
 -- What a forwarder that runs leaves in its files behind each packet, and however its stream ends.
-use Rattle.std.specs.Prelude.{◌≡◌, ℕ, ◌+◌, ◌-◌, ◌<◌, ◌≤◌, ◌^◌, min, ◌⊎◌, IsTrue, IfSome, List, [], ◌∷◌, ◌++◌, length, Some, None, slice_get, Result, Ok, Err, OnOk, IfErr}
+use Rattle.std.specs.Prelude.{◌≡◌, ℕ, ◌+◌, ◌-◌, ◌<◌, ◌≤◌, ◌⊎◌, IsTrue, List, [], ◌∷◌, ◌++◌, length, Result, Ok, Err, OnOk, IfErr}
 use Rattle.fab_base.specs.Ending.{end_by, Uses}
 use Rattle.fab_base.specs.Seen.{Seen, Nothing, Only}
 use Rattle.fab_config.specs.Settings.{Settings}
@@ -13,21 +13,17 @@ use Rattle.pcapng_file.specs.Classic.{classic_bytes}
 use Rattle.pcapng_file.specs.File.{AreKept, IsNg, Section}
 use Rattle.pcapng_file.specs.Stream.{BeginsWith, Stops}
 use Rattle.fab_policy.specs.Journal.{Journal, frame_count}
-use Rattle.fab_policy.specs.Legal.{window_start}
-use Rattle.fab_policy.specs.Standing.{Contents}
 use Rattle.pcap_file.specs.declared.fault.LimitKind.{LimitKind}
 use Rattle.pcap_file.specs.declared.fault.LimitKind.TheVariants as limits
 use Rattle.run_files.specs.Faults.{IsUnwritten}
 use Rattle.fab_windows.specs.declared.Done.{Done}
 use Rattle.fab_windows.specs.Files.{Hold, Wholes, Fronts, text_so_far, captures_so_far}
-use Rattle.fab_windows.specs.Pages.{IsNothing, pending}
 use Rattle.fab_windows.specs.Run.{IsRunOver}
-use Rattle.fab_windows.specs.Steps.{Sofar}
 use Rattle.fab_live.specs.declared.live.Live.{Live}
 use Rattle.fab_live.specs.declared.fault.LiveFault.{LiveFault}
 use Rattle.fab_live.specs.declared.fault.LiveFault.TheVariants as fault
 use Rattle.fab_live.specs.Files.{LiveSlots, LiveNames, AreLive, Came, CameSome, live_end}
-use Rattle.fab_live.specs.Arriving.{arrived, greatest_of, of_face, records_of, AllFaces, first_start, IsInSpan}
+use Rattle.fab_live.specs.Arriving.{arrived, of_face, records_of, AllFaces, IsInSpan}
 
 -- ---- files
 
@@ -52,32 +48,6 @@ pub record IsLiveRun (c : Settings) (n : ℕ) (packets : List NgRecord) (J : Jou
   pub span : IsInSpan c (arrived 0 packets)
   pub kept : AreKept packets
 
--- the window that is next behind a fabric's clock
-abbrev pub reach : Contents → ℕ
-reach F = elim F.state.tables.clock [ None ↦ 0 | Some t ↦ t + 1 ]
-
--- What stands behind each packet: the files hold all of it, and the fabric stands for the journal.
-pub record Running (c : Settings) (f : LiveSlots) (packets : List NgRecord) (J : Journal) (l : Live) (d : Seen) : Type 0 where
-  pub files : AreLive d f
-  pub width : length f.ins ≡ length f.outs
-  pub few : length f.outs ≤ 64
-  pub sofar : Sofar c (length f.outs) (reach l.fabric) (records_of (length f.outs) (arrived 0 packets)) J l.fabric
-  pub faces : AllFaces (length f.outs) packets
-  pub span : IsInSpan c (arrived 0 packets)
-  pub kept : AreKept packets
-  pub first : l.first ≡ first_start c (arrived 0 packets)
-  pub greatest : l.greatest ≡ greatest_of 0 packets
-  pub range : l.greatest < 2 ^ 43
-  pub clock : IfSome l.fabric.state.tables.clock (λ t. t ≡ window_start c l.greatest)
-  pub size : length l.counts.items ≡ length f.outs
-  pub counts : (q : ℕ) → q < length f.outs → slice_get l.counts.items q ≡ Some (length (of_face q (arrived 0 packets)))
-  pub frames : l.done.frames ≡ length packets
-  pub counted : frame_count J ≡ length packets
-  pub entries : l.done.entries ≡ min (length J) (2 ^ 64 - 1)
-  pub nothing : IsNothing (pending l.pages)
-  pub pages : length l.pages.records.items ≡ length f.outs
-  pub hold : IsTrue d.told → HoldLive c d f packets J
-
 -- ---- endings
 
 -- The files hold all of the packets so far.
@@ -95,13 +65,6 @@ pub record LeftBroken (c : Settings) (d : Seen) (f : LiveSlots) (packets : List 
 -- They hold all of the packets so far, or, where there was none, beginnings of the heads.
 abbrev pub LeftRefused : Settings → Seen → LiveSlots → List NgRecord → Type 0
 LeftRefused c d f packets = LeftWhole c d f packets ⊎ ((packets ≡ []) × LeftBroken c d f packets)
-
--- what taking a packet leaves where it fails: all but this packet, or beginnings of it
-abbrev pub LeavesPacket : Settings → LiveSlots → List NgRecord → NgRecord → Seen → LiveFault → Type 0
-LeavesPacket c f packets r d fault.Write = LeftBroken c d f (packets ++ r ∷ [])
-LeavesPacket c f packets r d fault.Memory = LeftWhole c d f packets
-LeavesPacket c f packets r d (fault.Limit limits.Span) = LeftWhole c d f packets × (¬ IsInSpan c (arrived 0 (packets ++ r ∷ [])))
-LeavesPacket c f packets r d _ = ⊥
 
 -- What a packet that isn't taken leaves of the numbers: how many came on each port, the first window, the greatest time, and how
 -- many frames and entries there were.

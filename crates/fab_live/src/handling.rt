@@ -5,7 +5,7 @@ ghost use Rattle.fab_shared.specs.Handled.{HandledPort};
 ghost use Rattle.fab_live.specs.Handling.{HandlesOne};
 
 use fab_base::{Caught, NoMemory, PortNo};
-use fab_policy::{Verdict, fabric_steps};
+use fab_policy::Verdict;
 use fab_windows::tick_to;
 use forward_core::{Drained, Fabric, StepFault};
 use heard_frames::hear;
@@ -48,8 +48,6 @@ fn take_frame(
     ensures one { OnOk result (frame_count fabric.new.events
         ≡ frame_count fabric.old.events + 1) }
 {
-    // Law: a fabric grows by each frame that it takes with a right verdict, as handled wants it.
-    fabric_steps();
     match fabric.step(alloc, port, index, &hear(caught), None) {
         Ok(verdict) => Ok(verdict),
         Err(StepFault::Memory) => Err(NoMemory),

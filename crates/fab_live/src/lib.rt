@@ -4,6 +4,7 @@
 mod begin;
 mod fault;
 mod files;
+mod from;
 mod handling;
 mod live;
 mod run;
@@ -12,5 +13,6 @@ pub use fab_gather::LimitKind;
 pub use fab_windows::Done;
 pub use fault::LiveFault;
 pub use files::LiveFiles;
+pub use from::packets_go_on;
 pub use pcapng_file::NgWhy;
 pub use run::run_live;

@@ -1,5 +1,5 @@
 //! What a forwarder that runs keeps from packet to packet, and the taking of one.
-ghost use Rattle.std.specs.Prelude.{◌≡◌, ◌+◌, ◌-◌, ◌<◌, ◌^◌, ◌++◌, ◌∷◌, [], List, Some, length, max, min, MatchResult, IfOk, OnErr};
+ghost use Rattle.std.specs.Prelude.{◌≡◌, ◌+◌, ◌-◌, ◌<◌, ◌^◌, ◌++◌, ◌∷◌, [], List, Some, length, max, min, MatchResult, IfOk, OnOk, OnErr, ℕ};
 ghost use Rattle.fab_config.specs.Settings.{Settings};
 ghost use Rattle.fab_policy.specs.Journal.{Journal};
 ghost use Rattle.fab_gather.specs.Looks as looks;
@@ -11,7 +11,8 @@ ghost use Rattle.fab_live.specs.Arriving as arriving;
 ghost use Rattle.fab_base.specs.Ending.{Uses, end_by};
 ghost use Rattle.fab_base.specs.Seen.{Nothing};
 ghost use Rattle.fab_live.specs.Files.{slots_of, LiveNames, live_end};
-ghost use Rattle.fab_live.specs.Live.{Running, LeavesPacket, KeepsNumbers};
+ghost use Rattle.fab_live.specs.Live.{KeepsNumbers};
+ghost use Rattle.fab_live.specs.Ready.{Beginning, HasRoom, IsReady, LeavesPacket, Running};
 
 use crate::files::write_packet;
 use crate::handling::handle;
@@ -19,7 +20,7 @@ use crate::{Done, LimitKind, LiveFault, LiveFiles};
 use fab_base::{Depot, Moment, NoMemory, PortNo};
 use fab_gather::window_start;
 use fab_pages::Sendings;
-use fab_windows::{Pages, laws_of_runs};
+use fab_windows::{Pages, runs_go_on};
 use forward_core::Fabric;
 use pcap_file::MOST_SPAN;
 use pcapng_file::{NgRecord, add_packet};
@@ -52,22 +53,24 @@ impl Live {
         files: &LiveFiles<'_>,
         packet: NgRecord,
     ) -> Result<(), LiveFault>
-        requires running { (c : Settings) × (packets : List of_stream.NgRecord) × (J : Journal)
-            × Running c (slots_of files.now) packets J self.old (D.seen depot.old) }
+        requires ready { IsReady (slots_of files.now) self.old (D.seen depot.old) }
         requires face { packet.face < length files.now.outs.now }
         requires kept { IsPacketKept packet }
-        requires room { self.old.done.frames + 1 < 2 ^ 64 }
-        ensures takes { (c : Settings) (packets : List of_stream.NgRecord) (J : Journal)
-            → Running c (slots_of files.now) packets J self.old (D.seen depot.old)
-            → MatchResult result (λ _. (K : Journal) × GoesOn J K
-            × Running c (slots_of files.now) (packets ++ packet ∷ []) K self.new (D.seen depot.new))
-            (λ e. LeavesPacket c (slots_of files.now) packets packet (D.seen depot.new) e) }
+        requires room { (self.old.done.frames + 1 < 2 ^ 64) × HasRoom self.old packet.face }
+        ensures takes { (c : Settings) (b : Beginning) (packets : List of_stream.NgRecord)
+            (K : Journal)
+            → Running c b (slots_of files.now) packets K self.old (D.seen depot.old)
+            → MatchResult result (λ _. (L : Journal) × GoesOn K L
+            × Running c b (slots_of files.now) (packets ++ packet ∷ []) L self.new (D.seen depot.new))
+            (λ e. LeavesPacket c b (slots_of files.now) packets packet (D.seen depot.new) e) }
+        ensures ready { OnOk result (IsReady (slots_of files.now) self.new
+            (D.seen depot.new)) }
         ensures uses { Uses Nothing (LiveNames (D.seen depot.old) (slots_of files.now))
             (end_by live_end result) (D.seen depot.old) (D.seen depot.new) }
         ensures stays { OnErr result (KeepsNumbers self.old self.new) }
     {
-        // Law: what further entries and records change; a run goes on by a window's records.
-        laws_of_runs();
+        // Law: a run from a state goes on by a window's records.
+        runs_go_on();
         let place = packet.face as usize;
         let packet = arrive(self.greatest, packet);
         let window = window_start(self.fabric.config(), packet.moment);

@@ -2,13 +2,13 @@
 ghost use Rattle.std.specs.Prelude.{◌≡◌, ◌<◌, ◌≤◌, ◌^◌, [], length, None};
 ghost use Rattle.fab_policy.specs.Outputs.{state_of};
 ghost use Rattle.fab_live.specs.Files.{slots_of};
-ghost use Rattle.fab_live.specs.Live.{AreGiven, AreOpen, Running, LiveRuns, fault_of};
+ghost use Rattle.fab_live.specs.Live.{AreGiven, AreOpen, LiveRuns, fault_of};
+ghost use Rattle.fab_live.specs.Ready.{Running, nothing_of_live};
 
 use crate::begin::{Started, begin};
 use crate::live::Live;
 use crate::{Done, LimitKind, LiveFault, LiveFiles};
 use fab_base::{Depot, Moment};
-use fab_windows::laws_of_runs;
 use forward_core::Fabric;
 use pcap_file::Budget;
 use pcapng_file::{NgError, NgLimit, NgStream};
@@ -35,8 +35,6 @@ pub fn run_live<R: Threads + Sync, D: Depot>(
     ensures runs { LiveRuns fabric.settings budget stream (slots_of files.now)
         (D.seen depot.old) (D.seen depot.new) result }
 {
-    // Law: an empty journal is a run over no records.
-    laws_of_runs();
     let started = match begin(alloc, depot, files) {
         Ok(started) => started,
         Err(fault) => return Err(fault),
@@ -81,8 +79,9 @@ fn follow<R: Threads + Sync, D: Depot>(
     files: &LiveFiles<'_>,
     budget: Budget,
 ) -> Result<Done, LiveFault>
-    requires running { Running live.old.fabric.settings (slots_of files.now) [] [] live.old
-        (D.seen depot.old) }
+    requires running { let c = live.old.fabric.settings in
+        Running c (nothing_of_live c (length files.now.outs.now)) (slots_of files.now) [] []
+        live.old (D.seen depot.old) }
     requires open { AreOpen (D.seen depot.old) stream (slots_of files.now) }
     ensures runs { LiveRuns live.old.fabric.settings budget stream (slots_of files.now)
         (D.seen depot.old) (D.seen depot.new) result }

@@ -10,8 +10,8 @@ use Rattle.fab_policy.specs.Growing.{records_to}
 use Rattle.fab_policy.specs.Outputs.{Sent}
 use Rattle.fab_policy.specs.Text.{sent_bytes}
 use Rattle.fab_policy.specs.declared.event.Event.{Event}
-use Rattle.fab_messages.specs.declared.message.Out.{Out}
-use Rattle.fab_messages.specs.Message.{AreSendable, can_send}
+use Rattle.fab_sending.specs.declared.message.Out.{Out}
+use Rattle.fab_sending.specs.Message.{AreSendable, can_send}
 use Rattle.fab_pages.specs.Pages.{Adds, items_in, piece_at}
 use Rattle.fab_pages.specs.declared.encoders.Encoder.{Encoder}
 use Rattle.fab_pages.specs.Encoders.{AreBelow, AreOut, IsEncoded, NoneFor, NoneRefused, has_place, page_in}

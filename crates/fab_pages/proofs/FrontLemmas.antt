@@ -4,7 +4,7 @@ use Rattle.std.specs.Prelude.{Vec, slice_set}
 use Rattle.std.specs.declared.alloc.Global.{Global}
 use Rattle.std.proofs.lemmas.Bool.{cases_eq}
 use Rattle.fab_policy.specs.Outputs.{Sent}
-use Rattle.fab_messages.specs.declared.message.Out.{Out}
+use Rattle.fab_sending.specs.declared.message.Out.{Out}
 use Rattle.run_files.specs.Pages.{items_in, piece_at}
 use Rattle.fab_pages.specs.Pages.{Adds, GoOn, GoesOn}
 use Rattle.fab_pages.specs.declared.encoders.Encoder.{Encoder}

@@ -13,7 +13,7 @@ use Rattle.fab_config.proofs.ListLemmas.{take_slice}
 use Rattle.fab_policy.specs.Growing.{records_to}
 use Rattle.fab_policy.specs.Outputs.{Sent}
 use Rattle.fab_policy.specs.Text.{sent_bytes}
-use Rattle.fab_messages.specs.declared.message.Out.{Out}
+use Rattle.fab_sending.specs.declared.message.Out.{Out}
 pub use Rattle.run_files.proofs.PageLemmas.{length-items, piece-item, length_set, set_page, own_page, other_page, page_of}
 use Rattle.fab_pages.specs.Pages.{Adds, AreEarly, items_in, piece_at}
 

@@ -3,7 +3,7 @@ use Rattle.std.specs.Prelude.{◌≡◌, ◌==◌, ℕ, ◌+◌, ◌<◌, Bool, 
 use Rattle.std.specs.List.{filter}
 use Rattle.fab_policy.specs.Growing.{records_to}
 use Rattle.fab_policy.specs.Outputs.{Sent}
-use Rattle.fab_messages.specs.declared.message.Out.{Out}
+use Rattle.fab_sending.specs.declared.message.Out.{Out}
 use Rattle.fab_pages.specs.Pages.{GoesOn, piece_at}
 use Rattle.fab_pages.specs.declared.encoders.Encoder.{Encoder}
 

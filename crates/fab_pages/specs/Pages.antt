@@ -5,8 +5,8 @@ use Rattle.fab_base.specs.declared.values.NoMemory.{NoMemory}
 use Rattle.fab_policy.specs.Growing.{records_to}
 use Rattle.fab_policy.specs.Outputs.{Sent}
 pub use Rattle.run_files.specs.Pages.{items_in, piece_at}
-use Rattle.fab_messages.specs.Message.{sent_of}
-use Rattle.fab_messages.specs.declared.message.Out.{Out}
+use Rattle.fab_sending.specs.Message.{sent_of}
+use Rattle.fab_sending.specs.declared.message.Out.{Out}
 use Rattle.fab_pages.specs.declared.pages.Sendings.{Sendings}
 
 -- a frame that is sent by what a fabric made

@@ -2,10 +2,10 @@
 use Rattle.std.specs.Prelude.{ℕ, Bool, List, length, nat_lt, sum_by}
 use Rattle.std.specs.Option.{option_map_or}
 use Rattle.fab_policy.specs.declared.event.Event.{Event}
-use Rattle.fab_messages.specs.Message.{frame_at}
-use Rattle.fab_messages.specs.declared.message.Out.{Out}
-use Rattle.fab_messages.specs.declared.message.OutMessage.{OutMessage}
-use Rattle.fab_messages.specs.declared.message.OutMessage.TheVariants.{Solicited, Forwarded}
+use Rattle.fab_sending.specs.Message.{frame_at}
+use Rattle.fab_sending.specs.declared.message.Out.{Out}
+use Rattle.fab_sending.specs.declared.message.OutMessage.{OutMessage}
+use Rattle.fab_sending.specs.declared.message.OutMessage.TheVariants.{Solicited, Forwarded}
 
 -- the length of the frame of an entry, or 64 where it has none
 abbrev pub size_at : ℕ → List Event → ℕ

@@ -1,7 +1,7 @@
 //! The records of several ports at once, those of each port in a thread of its own.
 ghost use Rattle.std.specs.Prelude.{◌≡◌, ℕ, ◌+◌, ◌-◌, ◌<◌, ◌≤◌, ◌^◌, ◌++◌, ◌∷◌, [], false, List, length, IsTrue, OnOk, vec_capacity, vec_len, slice_index_or, slice_set};
 ghost use Rattle.fab_policy.specs.Growing.{records_to};
-ghost use Rattle.fab_messages.specs.Message.{can_send};
+ghost use Rattle.fab_sending.specs.Message.{can_send};
 ghost use Rattle.fab_pages.specs.Pages.{Adds, AreEarly, GoOn, GoesOn, Writes, items_in, piece_at, sent_by, sents_of};
 ghost use Rattle.fab_pages.specs.Encoders.{AreBelow, AreOut, IsEncoded, NoneFor, NoneRefused, page_in};
 ghost use Rattle.fab_pages.specs.Sizes.{bytes_out, has_few, size_at, size_in};

@@ -3,7 +3,7 @@ ghost use Rattle.std.specs.Prelude.{◌≡◌, ◌-◌, ◌<◌, ◌≤◌, ◌^
 ghost use Rattle.fab_base.specs.Layout.{spelled_low};
 ghost use Rattle.pcap_file.specs.Capture.{record_bytes};
 ghost use Rattle.fab_policy.specs.Text.{sent_bytes};
-ghost use Rattle.fab_messages.specs.Message.{can_send};
+ghost use Rattle.fab_sending.specs.Message.{can_send};
 ghost use Rattle.fab_pages.specs.Pages.{AreEarly, GrowBy, GoesOn, Writes, items_in, sent_by, sents_of};
 
 use crate::cuts::{cut_all, lengths_of};

@@ -39,11 +39,11 @@ pub nothing_is_written : NothingIsWritten
 unfolding text egress
 nothing_is_written = (refl, λ c n p. refl)
 
-text-one : (J : Journal) (e : Event) → text (e ∷ J) ≡ text J ++ line (now (e ∷ J)) e
+pub text-one : (J : Journal) (e : Event) → text (e ∷ J) ≡ text J ++ line (now (e ∷ J)) e
 unfolding text
 text-one J e = refl
 
-clock-one : (J : Journal) (e : Event) → now (e ∷ J) ≡ clock_after (now J) e
+pub clock-one : (J : Journal) (e : Event) → now (e ∷ J) ≡ clock_after (now J) e
 clock-one J (Tick m ended) = refl
 clock-one J (Frame port index caught verdict) = refl
 
@@ -55,7 +55,7 @@ text_grows J (e ∷ more) =
     ∙ append_assoc (text J) (line (now (e ∷ J)) e) (lines_from (now (e ∷ J)) more)
     ∙ ap (λ (t : ℕ). text J ++ (line t e ++ lines_from t more)) (clock-one J e)
 
-egress-one : (c : Settings) (n p : ℕ) (J : Journal) (e : Event) → egress c n p (e ∷ J) ≡ egress c n p J ++ records_to p (outputs c n J e)
+pub egress-one : (c : Settings) (n p : ℕ) (J : Journal) (e : Event) → egress c n p (e ∷ J) ≡ egress c n p J ++ records_to p (outputs c n J e)
 unfolding egress
 egress-one c n p J e = refl
 
@@ -71,7 +71,7 @@ flat-append : (l m : List Sent) → flat_map sent_bytes (l ++ m) ≡ flat_map se
 flat-append [] m = refl
 flat-append (x ∷ l) m = ap (λ k. sent_bytes x ++ k) (flat-append l m) ∙ sym (append_assoc (sent_bytes x) (flat_map sent_bytes l) (flat_map sent_bytes m))
 
-records-append : (p : ℕ) (l m : List Sent) → records_to p (l ++ m) ≡ records_to p l ++ records_to p m
+pub records-append : (p : ℕ) (l m : List Sent) → records_to p (l ++ m) ≡ records_to p l ++ records_to p m
 records-append p l m = ap (flat_map sent_bytes) (filter-append (λ s. eqb s.port p) l m) ∙ flat-append (filter (λ s. eqb s.port p) l) (filter (λ s. eqb s.port p) m)
 
 pub egress_grows : EgressGrows
@@ -100,19 +100,24 @@ front_before (Frame port index caught verdict) J p (rs ∷ ins) h =
     let own = if eqb port p then (index, caught) ∷ [] else [] in
     ((own ++ h.0.0, sym (append_assoc (of_port p J) own h.0.0) ∙ h.0.1), front_before (Frame port index caught verdict) J (p + 1) ins h.1)
 
-length-numbered : (n : ℕ) (rs : List Record) → length (numbered_from n rs) ≡ length rs
+pub length-numbered : (n : ℕ) (rs : List Record) → length (numbered_from n rs) ≡ length rs
 length-numbered n [] = refl
 length-numbered n (r ∷ rs) = let h = length-numbered (n + 1) rs in omega arith
+
+-- records numbered in two parts
+pub numbered-append : (n : ℕ) (l m : List Record) → numbered_from n (l ++ m) ≡ numbered_from n l ++ numbered_from (n + length l) m
+numbered-append n [] m = ap (λ (k : ℕ). numbered_from k m) (let e : n ≡ n + 0 = omega arith in e)
+numbered-append n (r ∷ l) m = ap (λ k. (n, r.caught) ∷ k) (numbered-append (n + 1) l m ∙ ap (λ (k : ℕ). numbered_from (n + 1) l ++ numbered_from k m) (let e : n + 1 + length l ≡ n + suc (length l) = omega arith in e))
 
 few_of : (l rest : List (ℕ × Caught)) (rs : List Record) → l ++ rest ≡ numbered_from 0 rs → length l ≤ length rs
 few_of l rest rs e = let a = length-append l rest in let b = ap length e in let d = length-numbered 0 rs in omega arith
 
 -- the window starts of more records
-map-more : (c : Settings) (rs qs : List Record) → map (λ (r : Record). window_start c r.moment) (rs ++ qs) ≡ map (λ (r : Record). window_start c r.moment) rs ++ map (λ (r : Record). window_start c r.moment) qs
+pub map-more : (c : Settings) (rs qs : List Record) → map (λ (r : Record). window_start c r.moment) (rs ++ qs) ≡ map (λ (r : Record). window_start c r.moment) rs ++ map (λ (r : Record). window_start c r.moment) qs
 map-more c [] qs = refl
 map-more c (r ∷ rs) qs = ap (λ l. window_start c r.moment ∷ l) (map-more c rs qs)
 
-any-left : (f : ℕ → Bool) (l m : List ℕ) → IsTrue (list_any f l) → IsTrue (list_any f (l ++ m))
+pub any-left : (f : ℕ → Bool) (l m : List ℕ) → IsTrue (list_any f l) → IsTrue (list_any f (l ++ m))
 any-left f [] m h = absurd (cc)
 any-left f (x ∷ l) m h = by_test (f x) h (any-left f l m)
   where
@@ -120,7 +125,7 @@ any-left f (x ∷ l) m h = by_test (f x) h (any-left f l m)
     by_test true h more = refl
     by_test false h more = more h
 
-any-right : (f : ℕ → Bool) (l m : List ℕ) → IsTrue (list_any f m) → IsTrue (list_any f (l ++ m))
+pub any-right : (f : ℕ → Bool) (l m : List ℕ) → IsTrue (list_any f m) → IsTrue (list_any f (l ++ m))
 any-right f [] m h = h
 any-right f (x ∷ l) m h = by_test (f x) (any-right f l m h)
   where
@@ -128,7 +133,7 @@ any-right f (x ∷ l) m h = by_test (f x) (any-right f l m h)
     by_test true h = refl
     by_test false h = h
 
-any-either : (f : ℕ → Bool) (l m : List ℕ) → IsTrue (list_any f (l ++ m)) → IsTrue (list_any f l) ⊎ IsTrue (list_any f m)
+pub any-either : (f : ℕ → Bool) (l m : List ℕ) → IsTrue (list_any f (l ++ m)) → IsTrue (list_any f l) ⊎ IsTrue (list_any f m)
 any-either f [] m h = inr h
 any-either f (x ∷ l) m h = by_test (f x) h (any-either f l m)
   where
@@ -136,7 +141,7 @@ any-either f (x ∷ l) m h = by_test (f x) h (any-either f l m)
     by_test true h more = inl refl
     by_test false h more = more h
 
-all-both : (f : ℕ → Bool) (l m : List ℕ) → IsTrue (list_all f l) → IsTrue (list_all f m) → IsTrue (list_all f (l ++ m))
+pub all-both : (f : ℕ → Bool) (l m : List ℕ) → IsTrue (list_all f l) → IsTrue (list_all f m) → IsTrue (list_all f (l ++ m))
 all-both f [] m h k = k
 all-both f (x ∷ l) m h k = by_test (f x) h (λ g. all-both f l m g k)
   where
@@ -144,7 +149,7 @@ all-both f (x ∷ l) m h k = by_test (f x) h (λ g. all-both f l m g k)
     by_test true h more = more h
     by_test false h more = absurd (cc)
 
-all-each : (f : ℕ → Bool) (l m : List ℕ) → IsTrue (list_all f (l ++ m)) → IsTrue (list_all f l) × IsTrue (list_all f m)
+pub all-each : (f : ℕ → Bool) (l m : List ℕ) → IsTrue (list_all f (l ++ m)) → IsTrue (list_all f l) × IsTrue (list_all f m)
 all-each f [] m h = (refl, h)
 all-each f (x ∷ l) m h = by_test (f x) h (all-each f l m)
   where
@@ -152,7 +157,7 @@ all-each f (x ∷ l) m h = by_test (f x) h (all-each f l m)
     by_test true h more = more h
     by_test false h more = absurd (cc)
 
-any_from : (c : Settings) (w v : ℕ) (rs : List Record) → AreBelow c w rs → IsTrue (list_any (λ m. eqb m v) (map (λ (r : Record). window_start c r.moment) rs)) → v < w
+pub any_from : (c : Settings) (w v : ℕ) (rs : List Record) → AreBelow c w rs → IsTrue (list_any (λ m. eqb m v) (map (λ (r : Record). window_start c r.moment) rs)) → v < w
 any_from c w v [] below h = absurd (cc)
 any_from c w v (r ∷ rs) below h = by_test (eqb (window_start c r.moment) v) refl h (any_from c w v rs below.1)
   where
@@ -160,12 +165,12 @@ any_from c w v (r ∷ rs) below h = by_test (eqb (window_start c r.moment) v) re
     by_test true e f more = let same = eqb-true (window_start c r.moment) v e in let b = below.0 in omega arith
     by_test false e f more = more f
 
-below-drop : (c : Settings) (w k : ℕ) (rs : List Record) → AreBelow c w rs → AreBelow c w (drop k rs)
+pub below-drop : (c : Settings) (w k : ℕ) (rs : List Record) → AreBelow c w rs → AreBelow c w (drop k rs)
 below-drop c w zero rs h = h
 below-drop c w (suc k) [] h = tt
 below-drop c w (suc k) (r ∷ rs) h = below-drop c w k rs h.1
 
-all_from : (c : Settings) (w v : ℕ) (rs : List Record) → v ≤ w → AreFrom c w rs → IsTrue (list_all (λ m. leb v m) (map (λ (r : Record). window_start c r.moment) rs))
+pub all_from : (c : Settings) (w v : ℕ) (rs : List Record) → v ≤ w → AreFrom c w rs → IsTrue (list_all (λ m. leb v m) (map (λ (r : Record). window_start c r.moment) rs))
 all_from c w v [] lt h = refl
 all_from c w v (r ∷ rs) lt h = both (le-leb v (window_start c r.moment) (let a = h.0 in omega arith)) (all_from c w v rs lt h.1)
   where
@@ -182,27 +187,27 @@ few_in_front J p [] h = tt
 few_in_front J p (rs ∷ ins) h = (few_of (of_port p J) h.0.0 rs h.0.1, few_in_front J (p + 1) ins h.1)
 
 module _ (c : Settings) (w v : ℕ) (J : Journal) where
-  abbrev is_it : ℕ → Bool
+  abbrev pub is_it : ℕ → Bool
   is_it m = eqb m v
 
-  abbrev least : ℕ → Bool
+  abbrev pub least : ℕ → Bool
   least m = leb v m
 
-  abbrev starts : List Record → List ℕ
+  abbrev pub starts : List Record → List ℕ
   starts rs = map (λ (r : Record). window_start c r.moment) rs
 
-  left_more : (p : ℕ) (rs qs : List Record) → length (of_port p J) ≤ length rs → starts (left_of p (rs ++ qs) J) ≡ starts (left_of p rs J) ++ starts qs
+  pub left_more : (p : ℕ) (rs qs : List Record) → length (of_port p J) ≤ length rs → starts (left_of p (rs ++ qs) J) ≡ starts (left_of p rs J) ++ starts qs
   left_more p rs qs few = ap starts (drop-append-le (length (of_port p J)) rs qs few) ∙ map-more c (left_of p rs J) qs
 
   -- the window of some frame that is left lies below
-  any_below : (p : ℕ) (ins : List (List Record)) → AllBelow c (w + 1) ins → IsTrue (list_any is_it (windows_left c p ins J)) → v < w + 1
+  pub any_below : (p : ℕ) (ins : List (List Record)) → AllBelow c (w + 1) ins → IsTrue (list_any is_it (windows_left c p ins J)) → v < w + 1
   any_below p [] below h = absurd (cc)
   any_below p (rs ∷ ins) below h = elim (any-either is_it (starts (left_of p rs J)) (windows_left c (p + 1) ins J) h) [
     | inl own ↦ any_from c (w + 1) v (left_of p rs J) (below-drop c (w + 1) (length (of_port p J)) rs below.0) own
     | inr more ↦ any_below (p + 1) ins below.1 more
   ]
 
-  any_more : (p : ℕ) (ins more : List (List Record)) → length more ≡ length ins → Few J p ins → IsTrue (list_any is_it (windows_left c p ins J)) → IsTrue (list_any is_it (windows_left c p (with_more ins more) J))
+  pub any_more : (p : ℕ) (ins more : List (List Record)) → length more ≡ length ins → Few J p ins → IsTrue (list_any is_it (windows_left c p ins J)) → IsTrue (list_any is_it (windows_left c p (with_more ins more) J))
   any_more p [] more e few h = absurd (cc)
   any_more p (rs ∷ ins) [] e few h = absurd (omega arith)
   any_more p (rs ∷ ins) (qs ∷ more) e few h =
@@ -212,7 +217,7 @@ module _ (c : Settings) (w v : ℕ) (J : Journal) where
         | inr rest ↦ any-right is_it (starts (left_of p rs J) ++ starts qs) (windows_left c (p + 1) (with_more ins more) J) (any_more (p + 1) ins more (omega arith) few.1 rest)
       ])
 
-  all_more : (p : ℕ) (ins more : List (List Record)) → v ≤ w → length more ≡ length ins → Few J p ins → AllFrom c w more → IsTrue (list_all least (windows_left c p ins J)) → IsTrue (list_all least (windows_left c p (with_more ins more) J))
+  pub all_more : (p : ℕ) (ins more : List (List Record)) → v ≤ w → length more ≡ length ins → Few J p ins → AllFrom c w more → IsTrue (list_all least (windows_left c p ins J)) → IsTrue (list_all least (windows_left c p (with_more ins more) J))
   all_more p [] more lt e few from h = refl
   all_more p (rs ∷ ins) [] lt e few from h = absurd (omega arith)
   all_more p (rs ∷ ins) (qs ∷ more) lt e few from h =
@@ -224,7 +229,7 @@ module _ (c : Settings) (w v : ℕ) (J : Journal) where
 
 -- ---- the record of an entry
 
-numbered_place : (n : ℕ) (rs : List Record) (l m : List (ℕ × Caught)) (i : ℕ) (x : Caught) → (l ++ (i, x) ∷ []) ++ m ≡ numbered_from n rs → (i ≡ n + length l) × (length l < length rs)
+pub numbered_place : (n : ℕ) (rs : List Record) (l m : List (ℕ × Caught)) (i : ℕ) (x : Caught) → (l ++ (i, x) ∷ []) ++ m ≡ numbered_from n rs → (i ≡ n + length l) × (length l < length rs)
 numbered_place n [] [] m i x e = absurd (cc)
 numbered_place n [] (y ∷ l) m i x e = absurd (cc)
 numbered_place n (r ∷ rs) [] m i x e =
@@ -234,13 +239,13 @@ numbered_place n (r ∷ rs) (y ∷ l) m i x e =
     let rest : (l ++ (i, x) ∷ []) ++ m ≡ numbered_from (n + 1) rs = cc in
     let h = numbered_place (n + 1) rs l m i x rest in (omega arith, omega arith)
 
-slice-more : (rs qs : List Record) (i : ℕ) → i < length rs → slice_get (rs ++ qs) i ≡ slice_get rs i
+pub slice-more : (rs qs : List Record) (i : ℕ) → i < length rs → slice_get (rs ++ qs) i ≡ slice_get rs i
 slice-more [] qs i lt = absurd (omega arith)
 slice-more (r ∷ rs) qs zero lt = refl
 slice-more (r ∷ rs) qs (suc i) lt = slice-more rs qs i (omega arith)
 
 -- the records of the port at a place
-at_port : (k i : ℕ) (ins more : List (List Record)) → length more ≡ length ins → k < length ins → ((rs : List Record) → slice_get ins k ≡ Some rs → i < length rs) →
+pub at_port : (k i : ℕ) (ins more : List (List Record)) → length more ≡ length ins → k < length ins → ((rs : List Record) → slice_get ins k ≡ Some rs → i < length rs) →
     option_and_then (λ rs. slice_get rs i) (slice_get (with_more ins more) k) ≡ option_and_then (λ rs. slice_get rs i) (slice_get ins k)
 at_port k i [] more e lt h = absurd (omega arith)
 at_port k i (rs ∷ ins) [] e lt h = absurd (omega arith)

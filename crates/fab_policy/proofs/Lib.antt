@@ -19,10 +19,14 @@ pub mod ReplyLemmas
 pub mod FcoeJudged
 pub mod LawLemmas
 pub mod SoundGrants
+pub mod After
+pub mod PortLists
+pub mod SoundTables
 pub mod Sound
 pub mod SoundMacs
 pub mod SoundFree
 pub mod RegistryFits
-mod GrowLemmas
+pub mod FollowedLemmas
+pub mod GrowLemmas
 pub mod Ticks
 pub mod Changes

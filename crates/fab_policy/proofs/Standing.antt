@@ -7,12 +7,9 @@ use Rattle.fab_policy.specs.Journal.{Journal, followed}
 use Rattle.fab_policy.specs.State.{Tables, tables_of}
 use Rattle.fab_policy.specs.Outputs.{State, state_of, outputs, outputs_by, notices, rscn_count}
 use Rattle.fab_policy.specs.Steps.{after}
-use Rattle.fab_policy.specs.Legal.{Legal, IsRightEntry, IsDueBy}
-use Rattle.fab_policy.specs.Standing.{Contents, Stands, Takes, StandsNew, StandsOlder, DueAfter, StandsAfter, StandsDrained, LegalAfter, Grown, GrowsByFrames, AreFrames, grown_of_itself, state_after, sent_after}
-use Rattle.fab_base.specs.declared.values.Caught.{Caught}
+use Rattle.fab_policy.specs.Legal.{IsRightEntry, IsDueBy}
+use Rattle.fab_policy.specs.Standing.{StandsNew, StandsOlder, DueAfter, StandsAfter, StandsDrained, LegalAfter, state_after, sent_after}
 use Rattle.fab_policy.specs.declared.event.Event.{Event}
-use Rattle.fab_policy.specs.declared.event.Event.TheVariants.{Tick, Frame}
-use Rattle.fab_policy.specs.declared.verdict.Verdict.{Verdict}
 use Rattle.fab_policy.proofs.Steps.{steps}
 
 followed_last : (J : Journal) (es : List Event) (e : Event) → followed J (es ++ e ∷ []) ≡ e ∷ followed J es
@@ -40,7 +37,7 @@ sent_last : (c : Settings) (n : ℕ) (J : Journal) (es : List Event) (e : Event)
 sent_last c n J [] e = append-nil (outputs c n J e)
 sent_last c n J (d ∷ es) e = ap (λ xs. outputs c n J d ++ xs) (sent_last c n (d ∷ J) es e) ∙ sym (append_assoc (outputs c n J d) (sent_after c n (d ∷ J) es) (outputs c n (followed (d ∷ J) es) e))
 
-state_step : (c : Settings) (e : Event) (J : Journal) → state_of c (e ∷ J) ≡ state_after c (state_of c J) e
+pub state_step : (c : Settings) (e : Event) (J : Journal) → state_of c (e ∷ J) ≡ state_after c (state_of c J) e
 state_step c e J = same_states (steps c e J)
     (ap (λ U. (rscn_count c J + length (notices c (tables_of c J) U e)) % 65535) (steps c e J)
     ∙ sym (mod-add-mod (rscn_count c J) 65535 (length (notices c (tables_of c J) (after c (tables_of c J) e) e))))
@@ -50,7 +47,7 @@ state_step c e J = same_states (steps c e J)
     same_states e1 e2 = cc
 
 -- what an entry sends after a journal follows from what the journal says
-outputs_step : (c : Settings) (n : ℕ) (J : Journal) (e : Event) → outputs c n J e ≡ outputs_by c n (state_of c J) (after c (tables_of c J) e) e
+pub outputs_step : (c : Settings) (n : ℕ) (J : Journal) (e : Event) → outputs c n J e ≡ outputs_by c n (state_of c J) (after c (tables_of c J) e) e
 outputs_step c n J e = ap (λ U. outputs_by c n (state_of c J) U e) (steps c e J)
 
 pub stands_after : StandsAfter
@@ -76,31 +73,3 @@ stands_drained F J s = record { state = s.state; older = J; events = refl; outs 
 
 pub legal_after : LegalAfter
 legal_after F e J l s r = (l, subst (λ S. IsRightEntry F.settings S.tables e) s.state r)
-
-frames_last : (es : List Event) (port index : ℕ) (caught : Caught) (v : Verdict) → AreFrames es → AreFrames (es ++ Frame port index caught v ∷ [])
-frames_last [] port index caught v h = tt
-frames_last (Frame p i c w ∷ es) port index caught v h = frames_last es port index caught v h
-frames_last (Tick m ended ∷ es) port index caught v h = h
-
-grown_step : (first F G : Contents) (port index : ℕ) (caught : Caught) (v : Verdict) → Grown first F →
-    IsRightEntry F.settings F.state.tables (Frame port index caught v) → Takes F (Frame port index caught v) G → Grown first G
-grown_step first F G port index caught v g r t =
-    let e : Event = Frame port index caught v in
-    record {
-      settings = t.settings ∙ g.settings;
-      count = t.count ∙ g.count;
-      clock = ap (λ S. S.tables.clock) t.state ∙ g.clock;
-      later = g.later ++ e ∷ [];
-      frames = frames_last g.later port index caught v g.frames;
-      events = t.events ∙ ap (λ es. es ++ e ∷ []) g.events ∙ append_assoc first.events g.later (e ∷ []);
-      stands = λ J l s.
-          let was = g.stands J l s in
-          let last : e ∷ followed J g.later ≡ followed J (g.later ++ e ∷ []) = sym (followed_last J g.later e) in
-          let right : Legal F.settings (e ∷ followed J g.later) = legal_after F e (followed J g.later) (subst (λ c. Legal c (followed J g.later)) (sym g.settings) was.0) was.1 r in (
-            subst (λ I. Legal first.settings I) last (subst (λ c. Legal c (e ∷ followed J g.later)) g.settings right),
-            subst (λ I. Stands G I) last (stands_after F G e (followed J g.later) was.1 t),
-          );
-    }
-
-pub grows_by_frames : GrowsByFrames
-grows_by_frames = (grown_of_itself, grown_step)

@@ -105,6 +105,14 @@ IsNextTick c J w m = elim (clock J) as (λ _. Type 0) [
       × ((k : ℕ) → IsTickTime c J k → k < m → is_owed_after c J k ≡ false)
 ]
 
+-- the same by what a fabric keeps
+abbrev pub IsNextTickBy : Settings → State → ℕ → ℕ → Type 0
+IsNextTickBy c S w m = elim (S.tables.clock) as (λ _. Type 0) [
+  | None ↦ m ≡ w
+  | Some t ↦ (t < m) × (m ≤ w) × ((m ≡ w) ⊎ IsTrue (is_tick_owed c S.tables S.advertised m)) × (m % c.window ≡ 0)
+      × ((k : ℕ) → IsTickTimeAt c S.tables.clock k → k < m → is_tick_owed c S.tables S.advertised k ≡ false)
+]
+
 -- the record of an entry
 abbrev pub record_of : List (List Record) → ℕ → ℕ → Option Record
 record_of ins port index = option_and_then (λ records. slice_get records index) (slice_get ins (port - 1))

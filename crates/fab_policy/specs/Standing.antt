@@ -1,16 +1,12 @@
 -- What a fabric stands for: the plain contents of its tables, and a journal that says the same.
-use Rattle.std.specs.Prelude.{◌≡◌, ℕ, ◌+◌, ◌%◌, List, [], ◌∷◌, ◌++◌, length, refl}
-use Rattle.std.proofs.Common.{sym}
-use Rattle.std.proofs.lemmas.List.{append-nil}
+use Rattle.std.specs.Prelude.{◌≡◌, ℕ, ◌+◌, ◌%◌, List, [], ◌∷◌, ◌++◌, length}
 use Rattle.fab_config.specs.Settings.{Settings}
 use Rattle.fab_policy.specs.Journal.{Journal, followed}
 use Rattle.fab_policy.specs.Outputs.{State, state_of, outputs, outputs_by, notices, advertised_after, Sent}
 use Rattle.fab_policy.specs.Steps.{after}
 use Rattle.fab_policy.specs.Legal.{Legal, IsRightEntry, IsDue, IsDueBy}
-use Rattle.fab_base.specs.declared.values.Caught.{Caught}
 use Rattle.fab_policy.specs.declared.event.Event.{Event}
 use Rattle.fab_policy.specs.declared.event.Event.TheVariants.{Tick, Frame}
-use Rattle.fab_policy.specs.declared.verdict.Verdict.{Verdict}
 
 -- The plain contents of a fabric: its configuration and its number of ports, what its tables say, and what happened and was
 -- sent since the last drain, in order.
@@ -89,25 +85,3 @@ abbrev pub AreFrames : List Event → Type 0
 AreFrames [] = Unit {0}
 AreFrames (Frame port index caught verdict ∷ more) = AreFrames more
 AreFrames (Tick m ended ∷ more) = ⊥
-
--- A fabric grew out of another by frames alone: for each legal journal that the first stood for, that journal followed by the
--- later entries is legal, and the fabric stands for it.
-pub record Grown (first F : Contents) : Type 0 where
-  pub settings : F.settings ≡ first.settings
-  pub count : F.count ≡ first.count
-  pub clock : F.state.tables.clock ≡ first.state.tables.clock
-  pub later : List Event
-  pub frames : AreFrames later
-  pub events : F.events ≡ first.events ++ later
-  pub stands : (J : Journal) → Legal first.settings J → Stands first J → Legal first.settings (followed J later) × Stands F (followed J later)
-
--- A fabric grew out of itself.
-pub grown_of_itself : (F : Contents) → Grown F F
-grown_of_itself F = record { settings = refl; count = refl; clock = refl; later = []; frames = tt; events = sym (append-nil F.events); stands = λ J l s. (l, s) }
-
--- A fabric grew out of itself, and one that grew grows by each frame that it takes with a right verdict.
-abbrev pub GrowsByFrames : Type 0
-GrowsByFrames =
-    ((F : Contents) → Grown F F)
-    × ((first F G : Contents) (port index : ℕ) (caught : Caught) (v : Verdict) → Grown first F →
-    IsRightEntry F.settings F.state.tables (Frame port index caught v) → Takes F (Frame port index caught v) G → Grown first G)

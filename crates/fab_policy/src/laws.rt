@@ -6,7 +6,7 @@ ghost use Rattle.fab_policy.specs.Changes.{EndsOfTicks, LogoutSteps, GrantSteps,
 ghost use Rattle.fab_policy.specs.Changes.{GrantPast};
 ghost use Rattle.fab_policy.specs.Carried.{SourcesAreRead, LoginsAreCarried, BodiesAreCarried};
 ghost use Rattle.fab_policy.specs.Carried.{ParmsAreAsked, AnswersAreAsked};
-ghost use Rattle.fab_policy.specs.Due.{DueIsOne, NextTickIsLesser};
+ghost use Rattle.fab_policy.specs.Due.{DueIsOne, NextTickIsLesser, NextTickByIsLesser};
 ghost use Rattle.fab_policy.specs.Forwarding.{ForwardsExactly, LegalForwards};
 ghost use Rattle.fab_policy.specs.Live.{LegalNamesTheLive};
 ghost use Rattle.fab_policy.specs.Laws.{RequestsAreAnswered, SolicitationsAreAnswered};
@@ -16,7 +16,7 @@ ghost use Rattle.fab_policy.specs.Sound.{MacsTellAddresses, LiveMacsDiffer, Gran
 ghost use Rattle.fab_policy.specs.Sound.{LoginsAreInPool};
 ghost use Rattle.fab_policy.specs.Fits.{RegistrationsFit, LoginsFit, FeaturesAreAll};
 ghost use Rattle.fab_policy.specs.Standing.{StandsNew, StandsOlder, DueAfter, StandsAfter};
-ghost use Rattle.fab_policy.specs.Standing.{StandsDrained, LegalAfter, GrowsByFrames};
+ghost use Rattle.fab_policy.specs.Standing.{StandsDrained, LegalAfter};
 
 /// What a journal with one more entry says follows from what the journal said, and tables that are
 /// found address by address are the whole tables.
@@ -77,7 +77,6 @@ pub fn fabric_steps()
     ensures due { DueAfter }
     ensures drained { StandsDrained }
     ensures legal { LegalAfter }
-    ensures grows { GrowsByFrames }
 {}
 
 /// A captured frame of bytes is answered by a list of VLANs exactly where the layout of Ethernet
@@ -92,10 +91,11 @@ pub fn solicitations_are_answered()
 {}
 
 /// One moment at most is due, and after the first tick the next one is the lesser of it and of the
-/// window of the next frames.
+/// window of the next frames: by what a journal says, and by what a fabric keeps.
 pub fn ticks_are_due()
     ensures one { DueIsOne }
     ensures next { NextTickIsLesser }
+    ensures state { NextTickByIsLesser }
 {}
 
 /// A data frame goes on exactly where its source MAC, its port, both logins and a zone allow it, to

@@ -16,8 +16,8 @@ use Rattle.fab_policy.specs.declared.event.Event.{Event}
 use Rattle.fab_policy.specs.declared.event.Event.TheVariants.{Tick, Frame}
 use Rattle.fab_policy.specs.declared.verdict.Verdict.{Verdict}
 use Rattle.fab_policy.proofs.Standing.{stands_older}
-use Rattle.fab_messages.specs.Message.{sent_of}
-use Rattle.fab_messages.specs.declared.message.Out.{Out}
+use Rattle.fab_sending.specs.Message.{sent_of}
+use Rattle.fab_sending.specs.declared.message.Out.{Out}
 use Rattle.fab_pages.specs.Pages.{Adds, AreEarly, piece_at}
 use Rattle.fab_replay.specs.Owed.{AreSoon, PagesGrow}
 use Rattle.fab_replay.specs.Steps.{IsIdle, IsReached, Scene}

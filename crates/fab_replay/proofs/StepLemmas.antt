@@ -20,6 +20,7 @@ use Rattle.fab_gather.specs.declared.shelf.Shelf.{Shelf}
 use Rattle.pcap_file.specs.declared.Record.{Record}
 use Rattle.fab_replay.specs.Front.{IsFirstWrong, IsGatheredTo, IsNextFrame, IsWrong, has_left, is_at}
 use Rattle.fab_replay.specs.Lines.{IsLineAt, IsUnread, first_line, number_behind, text_in}
+use Rattle.fab_states.proofs.WentLemmas.{next_ticks_stand}
 use Rattle.forward_core.specs.Fabric.{IsTickOf}
 use Rattle.fab_replay.specs.Steps.{HasLeft, HoldSame, IsFound, IsOnShelf, IsReached, IsRefused, IsTickNow, IsWindow, Scene, refusal}
 use Rattle.fab_replay.specs.declared.fault.CheckFault.{CheckFault}
@@ -156,7 +157,7 @@ tick_now x I J F stands settings w m same t least =
     record {
       window = w;
       least = own;
-      next = subst (λ (c : Settings). IsNextTick c J w m) settings (t.next J stands);
+      next = subst (λ (c : Settings). IsNextTick c J w m) settings (next_ticks_stand F J w m stands t.next);
       expected = tick_expected x.settings x.records J w own (before_window (clock J) m w (subst (λ o. IfSome o (λ k. k < m)) (same_clock F J stands) t.above) t.within);
     }
 

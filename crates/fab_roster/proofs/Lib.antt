@@ -20,3 +20,4 @@ pub mod Late
 pub mod Seen
 pub mod Asked
 pub mod ClockLemmas
+pub mod RestoreLemmas

@@ -9,13 +9,15 @@ mod hearing;
 mod listing;
 mod reaching;
 mod reading;
+mod restoring;
 mod roster;
 mod serving;
 
 use fab_base::OwnedList;
+pub use fc_addresses::Past;
 pub use granting::Request;
 pub use login_table::Login;
-pub use name_server::RegFault;
+pub use name_server::{RegFault, Values};
 pub use roster::Roster;
 
 /// Logins.

@@ -1,7 +1,7 @@
 //! What is known of the live N_Ports, one by one.
 ghost use Rattle.std.specs.Prelude.{◌≡◌, ℕ, length, find, nat_le, ◌==◌, ◌&&◌, Some, None, option_map, option_copied};
 ghost use Rattle.std.specs.Option.{option_map_or};
-ghost use Rattle.fab_base.specs.Fabric.{same_enode};
+ghost use Rattle.fab_base.specs.Fabric.{past_at, same_enode};
 ghost use Rattle.fab_policy.specs.State.{port_at};
 ghost use Rattle.fab_roster.specs.Changes.{IsSoundRoll};
 ghost use Rattle.fab_roster.specs.Roll.{login_of};
@@ -9,7 +9,9 @@ ghost use Rattle.fab_roster.specs.Roll.{login_of};
 use crate::{Login, Roster};
 use ct_messages::TypeMap;
 use fab_base::{Enode, FcId, Moment, Wwn};
+use fc_addresses::Past;
 use keepalive_clock::Voice;
+use name_server::Values;
 
 impl Roster {
     /// The login of an address.
@@ -88,6 +90,21 @@ impl Roster {
             (port_at address self.now.tables.ports) }
     {
         self.registry.node_name(address)
+    }
+
+    /// All that a live address registered.
+    pub fn values(&self, address: FcId) -> Option<&Values>
+        ensures { option_copied result ≡ option_map (λ p. p.values)
+            (port_at address self.now.tables.ports) }
+    {
+        self.registry.values(address)
+    }
+
+    /// What an address of the pool was used for, and none of another.
+    pub fn past(&self, address: FcId) -> Option<Past>
+        ensures { result ≡ past_at address self.now.tables.past }
+    {
+        self.pool.past(address)
     }
 
     /// The function with which a live address asked for state changes, and 0 where it didn't.

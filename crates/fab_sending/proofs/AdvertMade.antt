@@ -5,9 +5,9 @@ use Rattle.std.proofs.lemmas.List.Elements.{All-map}
 use Rattle.std.specs.List.{All}
 use Rattle.fab_base.specs.Counting.{counting}
 use Rattle.fab_policy.specs.declared.event.Event.{Event}
-use Rattle.fab_messages.specs.Message.{AreSendable}
-use Rattle.fab_messages.specs.declared.message.Out.{Out}
-use Rattle.fab_messages.specs.declared.message.OutMessage.TheVariants as out
+use Rattle.fab_sending.specs.Message.{AreSendable}
+use Rattle.fab_sending.specs.declared.message.Out.{Out}
+use Rattle.fab_sending.specs.declared.message.OutMessage.TheVariants as out
 use Rattle.fab_sending.specs.Messages.{advertisements, at_moment}
 use Rattle.fab_sending.proofs.Sendable.{CanBeSent, sendable_at}
 

@@ -15,10 +15,10 @@ use Rattle.fab_policy.specs.Outputs as outputs
 use Rattle.fab_policy.specs.Outputs.{bytes_before, enode_before, hundreds, with_enode}
 use Rattle.fab_policy.specs.State.{LivePort}
 use Rattle.fab_policy.specs.declared.event.Event.{Event}
-use Rattle.fab_messages.specs.Message.{AreSendable}
-use Rattle.fab_messages.specs.declared.message.Out.{Out}
-use Rattle.fab_messages.specs.declared.message.OutMessage.{OutMessage}
-use Rattle.fab_messages.specs.declared.message.OutMessage.TheVariants as out
+use Rattle.fab_sending.specs.Message.{AreSendable}
+use Rattle.fab_sending.specs.declared.message.Out.{Out}
+use Rattle.fab_sending.specs.declared.message.OutMessage.{OutMessage}
+use Rattle.fab_sending.specs.declared.message.OutMessage.TheVariants as out
 use Rattle.fab_roster.specs.Roll.{Login, login_of}
 use Rattle.fab_sending.specs.Clearing.{clears, clears_to, enodes_of, in_hundreds, place_of, vx_port_of, vx_ports_of}
 use Rattle.fab_sending.specs.Messages as messages

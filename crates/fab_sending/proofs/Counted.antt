@@ -7,7 +7,7 @@ use Rattle.fab_config.specs.Settings.{Settings}
 use Rattle.fab_policy.specs.Free.{Request}
 use Rattle.fab_policy.specs.State.{LivePort, Tables, addresses, now_of, port_at}
 use Rattle.fab_policy.specs.declared.verdict.Verdict.TheVariants.{Granted}
-use Rattle.fab_messages.specs.declared.message.Out.{Out}
+use Rattle.fab_sending.specs.declared.message.Out.{Out}
 use Rattle.fab_roster.specs.Roll.{Login, addresses_of, login_of}
 use Rattle.fab_sending.specs.Counting.{told_of_logins, with_changes}
 use Rattle.fab_sending.specs.Messages.{at_moment, changes}

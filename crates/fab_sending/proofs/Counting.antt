@@ -10,8 +10,8 @@ use Rattle.fab_config.proofs.ListLemmas.{take_slice}
 use Rattle.fab_config.specs.Settings.{Settings}
 use Rattle.fab_policy.specs.Outputs.{Notice, told}
 use Rattle.fab_policy.specs.State.{LivePort, Tables, addresses, overdue, port_at}
-use Rattle.fab_messages.specs.declared.message.Out.{Out}
-use Rattle.fab_messages.specs.declared.message.OutMessage.TheVariants as out
+use Rattle.fab_sending.specs.declared.message.Out.{Out}
+use Rattle.fab_sending.specs.declared.message.OutMessage.TheVariants as out
 use Rattle.fab_roster.specs.Roll.{Login, addresses_of, login_of}
 use Rattle.fab_sending.specs.Counting.{told_at_address, told_of_logins, with_changes}
 use Rattle.fab_sending.specs.Messages.{at_moment, changes}

@@ -6,10 +6,10 @@ use Rattle.std.proofs.lemmas.List.{drop-take, length-drop, length-take-le}
 use Rattle.std.proofs.lemmas.List.Elements.{All-nil, All-cons}
 use Rattle.fab_policy.specs.Replies.{Asker}
 use Rattle.fab_policy.specs.declared.event.Event.{Event}
-use Rattle.fab_messages.specs.Laws.{numbered, on}
-use Rattle.fab_messages.specs.Message.{AreSendable, can_send}
-use Rattle.fab_messages.specs.declared.message.Out.{Out}
-use Rattle.fab_messages.specs.declared.message.OutMessage.TheVariants as out
+use Rattle.fab_sending.specs.MessageLaws.{numbered, on}
+use Rattle.fab_sending.specs.Message.{AreSendable, can_send}
+use Rattle.fab_sending.specs.declared.message.Out.{Out}
+use Rattle.fab_sending.specs.declared.message.OutMessage.TheVariants as out
 use Rattle.fab_sending.specs.Framed.{framed}
 use Rattle.fab_sending.specs.Messages.{at_moment}
 use Rattle.fc_frames.specs.Pieces.{Cuts, piece_of, pieces}

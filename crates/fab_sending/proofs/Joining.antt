@@ -22,10 +22,10 @@ use Rattle.fab_policy.specs.declared.event.Event.{Event}
 use Rattle.fab_policy.specs.declared.event.Event.TheVariants.{Tick}
 use Rattle.fab_policy.specs.declared.verdict.Verdict.{Verdict}
 use Rattle.fab_policy.specs.declared.verdict.Verdict.TheVariants.{Answered}
-use Rattle.fab_messages.specs.Laws.{in_frames, messages, numbered, on}
-use Rattle.fab_messages.specs.Message.{AreSendable, can_send, frame_at, sent_of}
-use Rattle.fab_messages.specs.declared.message.Out.{Out}
-use Rattle.fab_messages.specs.declared.message.OutMessage.{OutMessage}
+use Rattle.fab_sending.specs.MessageLaws.{in_frames, messages, numbered, on}
+use Rattle.fab_sending.specs.Message.{AreSendable, can_send, frame_at, sent_of}
+use Rattle.fab_sending.specs.declared.message.Out.{Out}
+use Rattle.fab_sending.specs.declared.message.OutMessage.{OutMessage}
 use Rattle.fab_roster.proofs.Found.{some_found}
 use Rattle.fab_sending.specs.Laws.{FramesSend, FramesTell, TicksSend, TicksTell}
 use Rattle.fab_sending.specs.Messages.{advertisements_owed, at_moment, changes, clears, tick_messages}

@@ -12,3 +12,7 @@ pub mod Joining
 pub mod ClearMade
 pub mod AnswerFits
 pub mod Turning
+pub mod Keeping
+pub mod Replying
+pub mod FipLemmas
+pub mod Going

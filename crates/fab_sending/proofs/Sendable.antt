@@ -3,9 +3,9 @@ use Rattle.std.proofs.Common.{◌≡◌, ℕ, List, true}
 use Rattle.std.proofs.lemmas.List.Elements.{All-map}
 use Rattle.std.specs.List.{All}
 use Rattle.fab_policy.specs.declared.event.Event.{Event}
-use Rattle.fab_messages.specs.Message.{AreSendable, can_send}
-use Rattle.fab_messages.specs.declared.message.Out.{Out}
-use Rattle.fab_messages.specs.declared.message.OutMessage.{OutMessage}
+use Rattle.fab_sending.specs.Message.{AreSendable, can_send}
+use Rattle.fab_sending.specs.declared.message.Out.{Out}
+use Rattle.fab_sending.specs.declared.message.OutMessage.{OutMessage}
 use Rattle.fab_sending.specs.Messages.{at_moment}
 
 abbrev pub CanBeSent : List Event → ℕ × OutMessage → Type 0

@@ -12,10 +12,10 @@ use Rattle.fab_policy.specs.State.{LivePort, addresses, is_overdue, now_of, over
 use Rattle.fab_policy.specs.Steps.{after}
 use Rattle.fab_policy.specs.declared.event.Event.{Event}
 use Rattle.fab_policy.specs.declared.event.Event.TheVariants.{Tick, Frame}
-use Rattle.fab_messages.specs.Laws.{RepliesFit, messages}
-use Rattle.fab_messages.specs.Message.{bytes_of, sent_of}
-use Rattle.fab_messages.specs.declared.message.OutMessage.{OutMessage}
-use Rattle.fab_messages.specs.declared.message.OutMessage.TheVariants as out
+use Rattle.fab_sending.specs.MessageLaws.{RepliesFit, messages}
+use Rattle.fab_sending.specs.Message.{bytes_of, sent_of}
+use Rattle.fab_sending.specs.declared.message.OutMessage.{OutMessage}
+use Rattle.fab_sending.specs.declared.message.OutMessage.TheVariants as out
 use Rattle.fab_sending.proofs.Finding.{filter-listed}
 use Rattle.fab_sending.specs.Laws.{FramesSend, FramesTell, TicksSend, TicksTell}
 use Rattle.fab_sending.specs.Messages.{advertisements, advertisements_owed, at_moment, changes, clears, clears_to, frame_messages}

@@ -12,7 +12,7 @@ use Rattle.fab_config.specs.declared.ZoneSet.{ZoneSet}
 use Rattle.zone_rules.specs.Joined.{contains, has_zone_of, is_active, is_other, joined}
 use Rattle.fab_policy.specs.Outputs.{differs, is_watcher, told}
 use Rattle.fab_policy.specs.State.{LivePort, Tables}
-use Rattle.fab_messages.specs.declared.message.Out.{Out}
+use Rattle.fab_sending.specs.declared.message.Out.{Out}
 use Rattle.fab_sending.proofs.Finding.{filter-none}
 use Rattle.fab_sending.specs.Counting.{is_turned, with_changes}
 use Rattle.fab_sending.specs.Notices.{staying_at, told_of_change}

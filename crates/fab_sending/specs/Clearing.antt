@@ -5,8 +5,8 @@ use Rattle.fab_base.specs.declared.values.Enode.{Enode}
 use Rattle.fab_config.specs.Settings.{Settings}
 use Rattle.fab_policy.specs.Logins.{granted_mac}
 use Rattle.fab_policy.specs.Outputs.{enode_before, hundreds, with_enode}
-use Rattle.fab_messages.specs.declared.message.OutMessage.{OutMessage}
-use Rattle.fab_messages.specs.declared.message.OutMessage.TheVariants as out
+use Rattle.fab_sending.specs.declared.message.OutMessage.{OutMessage}
+use Rattle.fab_sending.specs.declared.message.OutMessage.TheVariants as out
 use Rattle.fab_roster.specs.Roll.{Login}
 use Rattle.fip_codec.specs.declared.message.VxPort.{VxPort}
 

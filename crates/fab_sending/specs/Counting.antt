@@ -6,7 +6,7 @@ use Rattle.fab_config.specs.declared.Activation.{Activation}
 use Rattle.zone_rules.specs.Joined.{is_other}
 use Rattle.fab_policy.specs.Outputs.{Notice, told}
 use Rattle.fab_policy.specs.State.{LivePort, Tables, port_at}
-use Rattle.fab_messages.specs.declared.message.Out.{Out}
+use Rattle.fab_sending.specs.declared.message.Out.{Out}
 use Rattle.fab_roster.specs.Reaching.{told_between}
 use Rattle.fab_roster.specs.Roll.{Login}
 use Rattle.fab_sending.specs.Messages.{at_moment, changes}

@@ -1,8 +1,8 @@
 -- The frames of an answer of the name server, by ranges of its bytes.
 use Rattle.std.specs.Prelude.{ℕ, ◌+◌, List, [], ◌∷◌}
 use Rattle.fab_policy.specs.Replies.{Asker}
-use Rattle.fab_messages.specs.declared.message.Out.{Out}
-use Rattle.fab_messages.specs.declared.message.OutMessage.TheVariants as out
+use Rattle.fab_sending.specs.declared.message.Out.{Out}
+use Rattle.fab_sending.specs.declared.message.OutMessage.TheVariants as out
 use Rattle.fc_frames.specs.Pieces.{piece_of}
 use Rattle.fc_frames.specs.declared.Piece.{Piece}
 

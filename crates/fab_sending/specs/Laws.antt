@@ -8,7 +8,7 @@ use Rattle.fab_policy.specs.Steps.{InPool, after}
 use Rattle.fab_policy.specs.declared.event.Event.{Event}
 use Rattle.fab_policy.specs.declared.event.Event.TheVariants.{Tick, Frame}
 use Rattle.fab_policy.specs.declared.verdict.Verdict.{Verdict}
-use Rattle.fab_messages.specs.Message.{frame_at, sent_of}
+use Rattle.fab_sending.specs.Message.{frame_at, sent_of}
 use Rattle.fab_sending.specs.Messages.{at_moment, frame_messages, tick_messages}
 use Rattle.fab_sending.specs.Notices.{notices_of_frame, notices_of_tick}
 use Rattle.fab_sending.specs.Sends.{CanFollow}

@@ -5,3 +5,5 @@ pub mod Laws
 pub mod Counting
 pub mod Framed
 pub mod Clearing
+pub mod Message
+pub mod MessageLaws

@@ -8,10 +8,10 @@ use Rattle.fab_base.specs.Counting.{counting}
 use Rattle.fab_policy.specs.Outputs.{Notice, State, enodes_of, hundreds, is_owed, vx_port_of}
 use Rattle.fab_policy.specs.State.{LivePort, overdue}
 use Rattle.fab_policy.specs.declared.verdict.Verdict.{Verdict}
-use Rattle.fab_messages.specs.Laws.{messages}
-use Rattle.fab_messages.specs.declared.message.Out.{Out}
-use Rattle.fab_messages.specs.declared.message.OutMessage.{OutMessage}
-use Rattle.fab_messages.specs.declared.message.OutMessage.TheVariants as out
+use Rattle.fab_sending.specs.MessageLaws.{messages}
+use Rattle.fab_sending.specs.declared.message.Out.{Out}
+use Rattle.fab_sending.specs.declared.message.OutMessage.{OutMessage}
+use Rattle.fab_sending.specs.declared.message.OutMessage.TheVariants as out
 use Rattle.fab_sending.specs.Notices.{notices_of_frame, notices_of_tick}
 
 -- messages that are sent at a moment

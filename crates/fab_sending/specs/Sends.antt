@@ -17,9 +17,9 @@ use Rattle.fab_policy.specs.declared.verdict.Verdict.TheVariants.{Granted, Regis
 use Rattle.els_messages.specs.Els as els
 use Rattle.ct_messages.specs.Ct.{Ask}
 use Rattle.ct_messages.specs.declared.CtTell.{CtTell}
-use Rattle.fab_messages.specs.Laws.{messages}
-use Rattle.fab_messages.specs.Message.{AreSendable, frame_at, sent_of}
-use Rattle.fab_messages.specs.declared.message.Out.{Out}
+use Rattle.fab_sending.specs.MessageLaws.{messages}
+use Rattle.fab_sending.specs.Message.{AreSendable, frame_at, sent_of}
+use Rattle.fab_sending.specs.declared.message.Out.{Out}
 use Rattle.fab_roster.specs.Roll.{login_of}
 use Rattle.fab_sending.specs.Messages.{at_moment, changes}
 use Rattle.fab_sending.specs.Notices.{ended_by_grant, notices_of_frame}

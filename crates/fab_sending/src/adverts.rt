@@ -2,12 +2,12 @@
 ghost use Rattle.std.specs.Prelude.{◌≡◌, ◌≤◌, List, IfOk};
 ghost use Rattle.fab_policy.specs.Outputs.{is_owed};
 ghost use Rattle.fab_policy.specs.declared.event.Event.{Event as Entry};
-ghost use Rattle.fab_messages.specs.Message.{AreSendable};
+ghost use Rattle.fab_sending.specs.Message.{AreSendable};
 ghost use Rattle.fab_sending.specs.Messages.{advertisements, advertisements_owed, at_moment};
 
+use crate::{Out, OutList, OutMessage};
 use fab_base::{Moment, NoMemory, PortNo};
 use fab_config::Config;
-use fab_messages::{Out, OutList, OutMessage};
 use std::alloc::Global;
 
 /// An advertisement on each port, where a period has passed since the last ones.

@@ -3,16 +3,16 @@ ghost use Rattle.std.specs.Prelude.{◌≡◌, ◌<◌, ◌≤◌, ◌^◌, All,
 ghost use Rattle.ct_messages.specs.Answer as ct;
 ghost use Rattle.ct_messages.specs.CanWrite.{CanTell};
 ghost use Rattle.fab_policy.specs.declared.event.Event.{Event as Entry};
-ghost use Rattle.fab_messages.specs.Laws.{numbered, on};
-ghost use Rattle.fab_messages.specs.Message.{AreSendable};
+ghost use Rattle.fab_sending.specs.MessageLaws.{numbered, on};
+ghost use Rattle.fab_sending.specs.Message.{AreSendable};
 ghost use Rattle.fab_roster.specs.Changes.{IsSize};
 ghost use Rattle.fab_sending.specs.Framed.{framed};
 ghost use Rattle.fab_sending.specs.Messages.{at_moment};
 ghost use Rattle.fc_frames.specs.Pieces as fc;
 
+use crate::{Out, OutList, OutMessage};
 use ct_messages::{CtTell, write_tell};
 use fab_base::{Bytes, Moment, NoMemory, PortNo};
-use fab_messages::{Out, OutList, OutMessage};
 use fab_policy::Asker;
 use fc_frames::{Piece, pieces, ranges_have_the_pieces};
 use std::alloc::Global;

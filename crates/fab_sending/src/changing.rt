@@ -12,10 +12,9 @@ ghost use Rattle.fab_sending.specs.Notices.{notices_of_frame, told_of_each};
 ghost use Rattle.fab_sending.specs.Sends.{IsGrant};
 
 use crate::noticing::{tell_of, tell_of_ends};
-use crate::{Before, Grant};
+use crate::{Before, Grant, OutList};
 use ct_messages::CtAsk;
 use fab_base::{FcId, Moment, NoMemory};
-use fab_messages::OutList;
 use fab_roster::{LoginList, Roster};
 use std::alloc::Global;
 

@@ -2,14 +2,14 @@
 ghost use Rattle.std.specs.Prelude.{◌≡◌, ◌++◌, ◌≤◌, List, IfOk, OnErr, OnOk, length};
 ghost use Rattle.fab_policy.specs.Outputs as spec;
 ghost use Rattle.fab_policy.specs.declared.event.Event.{Event as Entry};
-ghost use Rattle.fab_messages.specs.Message.{AreSendable};
+ghost use Rattle.fab_sending.specs.Message.{AreSendable};
 ghost use Rattle.fab_sending.specs.Clearing.{clears, enodes_of, in_hundreds, place_of};
 ghost use Rattle.fab_sending.specs.Clearing.{vx_port_of, vx_ports_of};
 ghost use Rattle.fab_sending.specs.Messages.{at_moment};
 
+use crate::{Out, OutList, OutMessage, VxPorts};
 use fab_base::{Enode, Moment, NoMemory, fpma};
 use fab_config::Config;
-use fab_messages::{Out, OutList, OutMessage, VxPorts};
 use fab_roster::{Login, LoginList};
 use fip_codec::VxPort;
 use std::alloc::Global;

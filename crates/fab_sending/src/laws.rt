@@ -2,7 +2,7 @@
 //! contracts are the laws.
 ghost use Rattle.fab_sending.specs.Laws.{FramesSend, FramesTell, TicksSend, TicksTell};
 
-use fab_messages::replies_fit;
+use crate::replies_fit;
 use fab_policy::{journal_steps, tables_change};
 
 /// The state changes of a tick follow from the tables before it.

@@ -8,9 +8,8 @@ ghost use Rattle.fab_sending.specs.Counting.{told_at_address, told_of_logins};
 ghost use Rattle.fab_sending.specs.Counting.{told_of_login_changes, with_changes};
 ghost use Rattle.fab_sending.specs.Notices.{told_of_name};
 
-use crate::Before;
+use crate::{Before, Out, OutList, OutMessage};
 use fab_base::{FcId, IdList, Moment, NoMemory, Wwn};
-use fab_messages::{Out, OutList, OutMessage};
 use fab_roster::LoginList;
 use std::alloc::Global;
 

@@ -2,9 +2,9 @@
 ghost use Rattle.std.specs.Prelude.{◌≡◌, ◌+◌, ◌*◌, ◌<◌, ◌≤◌};
 ghost use Rattle.fab_roster.specs.Reaching.{zones_of};
 
+use crate::OutList;
 use fab_base::{FcId, Moment};
 use fab_config::Config;
-use fab_messages::OutList;
 use fab_policy::Asker;
 use fab_roster::{LoginList, Request, Roster};
 use fip_codec::LoginKind;

@@ -8,11 +8,10 @@ ghost use Rattle.fab_sending.specs.Counting.{is_turned, with_changes};
 ghost use Rattle.fab_sending.specs.Messages.{at_moment, changes};
 ghost use Rattle.fab_sending.specs.Notices.{notices_of_tick, staying_at, told_of_change};
 
-use crate::Before;
 use crate::noticing::{tell_of_ends, tell_of_zones};
+use crate::{Before, OutList};
 use fab_base::{Moment, NoMemory};
 use fab_config::Activation;
-use fab_messages::OutList;
 use fab_roster::LoginList;
 use std::alloc::Global;
 

@@ -2,7 +2,8 @@
 use Rattle.std.proofs.Common.{◌≡◌, ℕ, List, ◌++◌, length, drop, sym, ap, ◌∙◌, subst}
 use Rattle.std.proofs.Math.Seq.{drop-append_seam}
 use mathlib.Core.List.{IsPrefix}
-use Rattle.fab_policy.specs.Standing.{Contents, Grown}
+use Rattle.fab_policy.specs.Standing.{Contents}
+use Rattle.fab_states.specs.Went.{Grown}
 use Rattle.fab_policy.specs.declared.event.Event.{Event}
 use Rattle.fab_turn.specs.declared.board.Pass.{Pass}
 use Rattle.fab_turn.specs.Lock.{seen, kept}

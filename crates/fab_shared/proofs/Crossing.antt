@@ -24,8 +24,8 @@ use Rattle.zone_rules.specs.contracts.zones.Zones as Zones
 use Rattle.fab_roster.proofs.roster.Roster.TheSendSync as roster
 use Rattle.fab_policy.specs.contracts.event.Event as Event
 use Rattle.fab_policy.proofs.event.Event.TheSendSync as event
-use Rattle.fab_messages.specs.contracts.message.Out as Out
-use Rattle.fab_messages.proofs.message.Out.TheSendSync as out
+use Rattle.fab_sending.specs.contracts.message.Out as Out
+use Rattle.fab_sending.proofs.message.Out.TheSendSync as out
 use Rattle.forward_core.specs.contracts.fabric.Fabric as Fabric
 use Rattle.fab_turn.proofs.board.Pass.TheSendSync as pass
 use Rattle.fab_turn.proofs.board.TurnLock.TheSendSync as lock

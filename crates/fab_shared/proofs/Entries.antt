@@ -1,7 +1,8 @@
 -- The frames of entries that come after others.
 use Rattle.std.proofs.Common.{◌≡◌, ℕ, List, [], ◌∷◌, ◌++◌, refl, ap, ◌∙◌}
 use Rattle.fab_base.specs.declared.values.Caught.{Caught}
-use Rattle.fab_policy.specs.Standing.{Contents, Takes, Grown, AreFrames}
+use Rattle.fab_policy.specs.Standing.{Contents, Takes, AreFrames}
+use Rattle.fab_states.specs.Went.{Grown}
 use Rattle.fab_policy.specs.declared.event.Event.{Event}
 use Rattle.fab_policy.specs.declared.event.Event.TheVariants.{Tick, Frame}
 use Rattle.fab_policy.specs.declared.verdict.Verdict.{Verdict}

@@ -14,8 +14,8 @@ use Rattle.pcap_file.specs.declared.Record.{Record}
 use Rattle.fab_turn.specs.Views as turn
 use Rattle.fab_shared.specs.Frames.{port_of_event}
 use Rattle.fab_shared.specs.Workers.{frames_in}
-use Rattle.fab_shared.proofs.FollowedLemmas.{of_port-followed, ports-followed}
-use Rattle.fab_shared.proofs.FrameLemmas.{numbered-append}
+use Rattle.fab_policy.proofs.FollowedLemmas.{of_port-followed, ports-followed}
+use Rattle.fab_policy.proofs.GrowLemmas.{numbered-append}
 
 pub frames_in-append : (es more : List Event) → frames_in (es ++ more) ≡ frames_in es ++ frames_in more
 frames_in-append [] more = refl

@@ -1,47 +1,46 @@
 -- The frames of a port, one after another, and then those of all ports.
-use Rattle.std.proofs.Common.{◌≡◌, ℕ, suc, ◌+◌, ◌<◌, ◌≤◌, ◌⊎◌, inl, inr, Bool, cond, List, [], ◌∷◌, ◌++◌, length, slice_get, take, get_or, Some, refl, sym, ap, ◌∙◌, subst, arith, append_assoc}
+use Rattle.std.proofs.Common.{◌≡◌, ℕ, suc, ◌+◌, ◌<◌, ◌≤◌, ◌⊎◌, inl, inr, Bool, cond, List, [], ◌∷◌, ◌++◌, length, slice_get, take, get_or, Some, refl, sym, ap, ◌∙◌, subst, arith}
 use Rattle.std.proofs.lemmas.Bool.{eq-eqb, ne_eqb, cases_order}
 use Rattle.std.proofs.lemmas.List.{append-nil, length-take-le, take_all, take_more}
 use Rattle.std.proofs.lemmas.Option.{slice_get_within}
 use Rattle.fab_base.specs.declared.values.Caught.{Caught}
-use Rattle.fab_config.specs.Settings.{Settings}
 use Rattle.fab_gather.specs.Reads.{batches_of}
 use Rattle.fab_gather.specs.declared.shelf.Shelf.{Shelf}
 use Rattle.fab_policy.specs.Growing.{FollowedByParts}
-use Rattle.fab_policy.specs.Journal.{Journal, followed}
-use Rattle.fab_policy.specs.Legal.{Legal, IsRightEntry, HasPorts, of_port, numbered_from}
-use Rattle.fab_policy.specs.Standing.{Contents, Stands, Takes, Grown, GrowsByFrames}
+use Rattle.fab_policy.specs.Journal.{followed}
+use Rattle.fab_policy.specs.Legal.{IsRightEntry, HasPorts, of_port, numbered_from}
+use Rattle.fab_policy.specs.Standing.{Contents, Takes}
+use Rattle.fab_policy.specs.Outputs.{State}
+use Rattle.fab_states.specs.Went.{Grown}
+use Rattle.fab_states.proofs.WentLemmas.{went_of, went_once, went_twice}
 use Rattle.fab_policy.specs.declared.event.Event.{Event}
 use Rattle.fab_policy.specs.declared.event.Event.TheVariants.{Frame}
 use Rattle.fab_policy.specs.declared.verdict.Verdict.{Verdict}
 use Rattle.pcap_file.specs.declared.Record.{Record}
 use Rattle.fab_gather.specs.Reads.{first_index}
 use Rattle.fab_shared.specs.Handled.{HandledPort, HoldBatches, Handled, firsts_of}
-use Rattle.fab_shared.proofs.FollowedLemmas.{of_port-followed, ports-followed, frames-append}
-
--- records numbered in two parts
-pub numbered-append : (n : ℕ) (l m : List Record) → numbered_from n (l ++ m) ≡ numbered_from n l ++ numbered_from (n + length l) m
-numbered-append n [] m = ap (λ (k : ℕ). numbered_from k m) (let e : n ≡ n + 0 = omega arith in e)
-numbered-append n (r ∷ l) m = ap (λ k. (n, r.caught) ∷ k) (numbered-append (n + 1) l m ∙ ap (λ (k : ℕ). numbered_from (n + 1) l ++ numbered_from k m) (let e : n + 1 + length l ≡ n + suc (length l) = omega arith in e))
+use Rattle.fab_policy.proofs.FollowedLemmas.{of_port-followed, ports-followed, frames-append}
+use Rattle.fab_policy.proofs.GrowLemmas.{numbered-append}
 
 -- a fabric grew out of itself
 abbrev grown_none : (F : Contents) → Grown F F
-grown_none F = record { settings = refl; count = refl; clock = refl; later = []; frames = tt; events = sym (append-nil F.events); stands = λ J l s. (l, s) }
+grown_none F = record { settings = refl; count = refl; clock = refl; later = []; frames = tt; events = sym (append-nil F.events); legal = tt; state = refl; outs = sym (append-nil F.outs) }
 
 -- a fabric that grew twice
-abbrev grown_twice : FollowedByParts → (F G H : Contents) → Grown F G → Grown G H → Grown F H
-grown_twice parts F G H g h = record {
-  settings = h.settings ∙ g.settings;
-  count = h.count ∙ g.count;
-  clock = h.clock ∙ g.clock;
-  later = g.later ++ h.later;
-  frames = frames-append g.later h.later g.frames h.frames;
-  events = h.events ∙ ap (λ (l : List Event). l ++ h.later) g.events ∙ append_assoc F.events g.later h.later;
-  stands = λ J l s.
-      let one = g.stands J l s in
-      let two = h.stands (followed J g.later) (subst (λ (c : Settings). Legal c (followed J g.later)) (sym g.settings) one.0) one.1 in
-      subst (λ (K : Journal). Legal F.settings K × Stands H K) (sym (parts J g.later h.later)) (subst (λ (c : Settings). Legal c (followed (followed J g.later) h.later)) g.settings two.0, two.1);
-}
+abbrev grown_twice : (F G H : Contents) → Grown F G → Grown G H → Grown F H
+grown_twice F G H g h =
+    let both = went_twice F G H g.later h.later (went_of F G g) (went_of G H h) in
+    record {
+      settings = both.settings;
+      count = both.count;
+      clock = h.clock ∙ g.clock;
+      later = g.later ++ h.later;
+      frames = frames-append g.later h.later g.frames h.frames;
+      events = both.events;
+      legal = both.legal;
+      state = both.state;
+      outs = both.outs;
+    }
 
 -- what the frames of a port are, if they came in two parts
 two_parts : FollowedByParts → (p : ℕ) (one two : List Event) → of_port p (followed [] (one ++ two)) ≡ of_port p (followed [] one) ++ of_port p (followed [] two)
@@ -57,19 +56,22 @@ pub port_none : (port first : ℕ) (F : Contents) → HandledPort port first [] 
 port_none port first F = record { grown = grown_none F; ports = tt; own = refl; others = λ q ne. refl }
 
 -- one record, the frame of which was heard
-module _ (laws : GrowsByFrames) (port index : ℕ) (r : Record) (caught : Caught) (same : caught ≡ r.caught) (v : Verdict) (F G : Contents) (some : 1 ≤ port) (most : port ≤ F.count)
-    (right : IsRightEntry F.settings F.state.tables (Frame port index caught v)) (took : Takes F (Frame port index caught v) G)
-    (goes_on : (J : Journal) → Legal F.settings J → Stands F J → Legal F.settings (Frame port index caught v ∷ J) × Stands G (Frame port index caught v ∷ J)) where
+module _ (port index : ℕ) (r : Record) (caught : Caught) (same : caught ≡ r.caught) (v : Verdict) (F G : Contents) (some : 1 ≤ port) (most : port ≤ F.count)
+    (right : IsRightEntry F.settings F.state.tables (Frame port index caught v)) (took : Takes F (Frame port index caught v) G) where
   abbrev grown_once : Grown F G
-  grown_once = record {
-    settings = took.settings;
-    count = took.count;
-    clock = (laws.1 F F G port index caught v (laws.0 F) right took).clock;
-    later = Frame port index caught v ∷ [];
-    frames = tt;
-    events = took.events;
-    stands = goes_on;
-  }
+  grown_once =
+      let one = went_once F G (Frame port index caught v) right took in
+      record {
+        settings = one.settings;
+        count = one.count;
+        clock = ap (λ (S : State). S.tables.clock) took.state;
+        later = Frame port index caught v ∷ [];
+        frames = tt;
+        events = one.events;
+        legal = one.legal;
+        state = one.state;
+        outs = one.outs;
+      }
 
   pub port_one : HandledPort port index (r ∷ []) F G
   port_one = record {
@@ -83,7 +85,7 @@ module _ (laws : GrowsByFrames) (port index : ℕ) (r : Record) (caught : Caught
 module _ (parts : FollowedByParts) (port first : ℕ) (records more : List Record) (F G H : Contents) (so_far : HandledPort port first records F G) (next : HandledPort port (first + length records) more G H) where
   pub port_more : HandledPort port first (records ++ more) F H
   port_more = record {
-    grown = grown_twice parts F G H so_far.grown next.grown;
+    grown = grown_twice F G H so_far.grown next.grown;
     ports = ports_twice parts F.count G.count so_far.grown.later next.grown.later so_far.grown.count so_far.ports next.ports;
     own = two_parts parts port so_far.grown.later next.grown.later
         ∙ ap (λ l. l ++ of_port port (followed [] next.grown.later)) so_far.own
@@ -152,7 +154,7 @@ module _ (parts : FollowedByParts) (k : ℕ) (shelves : List Shelf) (s : Shelf) 
 
   pub handling_more : Handling (k + 1) shelves F H
   handling_more = record {
-    grown = grown_twice parts F G H so_far.grown next.grown;
+    grown = grown_twice F G H so_far.grown next.grown;
     ports = ports_twice parts F.count G.count so_far.grown.later next.grown.later so_far.grown.count so_far.ports next.ports;
     own = own_next;
     others = others_next;

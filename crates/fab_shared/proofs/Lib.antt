@@ -2,7 +2,6 @@ pub mod Entries
 pub mod Submitting
 pub mod Closing
 pub mod Crossing
-pub mod FollowedLemmas
 pub mod FrameLemmas
 pub mod EntryLemmas
 pub mod WorkerLemmas

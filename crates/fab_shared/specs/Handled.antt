@@ -2,7 +2,8 @@
 use Rattle.std.specs.Prelude.{◌≡◌, ◌≢◌, ℕ, ◌+◌, ◌≤◌, List, [], ◌∷◌, length, map, IsSome}
 use Rattle.fab_policy.specs.Journal.{followed}
 use Rattle.fab_policy.specs.Legal.{HasPorts, of_port, numbered_from}
-use Rattle.fab_policy.specs.Standing.{Contents, Grown}
+use Rattle.fab_policy.specs.Standing.{Contents}
+use Rattle.fab_states.specs.Went.{Grown}
 use Rattle.fab_policy.specs.declared.event.Event.{Event}
 use Rattle.pcap_file.specs.declared.Record.{Record}
 use Rattle.fab_gather.specs.declared.shelf.Shelf.{Shelf}

@@ -1,9 +1,10 @@
 -- What a contract says of a shared fabric.
 use Rattle.std.specs.Prelude.{◌≡◌, ℕ, List, [], ◌∷◌, ◌++◌}
 use mathlib.Core.List.{IsPrefix}
-use Rattle.fab_policy.specs.Journal.{Journal, followed}
-use Rattle.fab_policy.specs.Legal.{Legal}
-use Rattle.fab_policy.specs.Standing.{Contents, Stands, Grown}
+use Rattle.fab_policy.specs.Journal.{followed}
+use Rattle.fab_policy.specs.Standing.{Contents}
+use Rattle.fab_states.specs.States.{LegalFrom}
+use Rattle.fab_states.specs.Went.{Grown}
 use Rattle.fab_policy.specs.declared.event.Event.{Event}
 use Rattle.fab_turn.specs.declared.board.Pass.{Pass}
 use Rattle.fab_turn.specs.Lock.{first_of, seen, own, kept}
@@ -17,15 +18,15 @@ abbrev pub opened : SharedFabric → Contents
 opened shared = (first_of shared.lock).fabric
 
 -- An entry became the last of the history and of the pass's own list. The history before it begins with what the pass had
--- seen, and for each legal journal that the opened fabric stood for, that journal followed by the entries since the opening
--- and then this one is legal.
+-- seen, and the entries since the opening and then this one are right, each after those before it, by what the opened fabric
+-- kept.
 pub record IsStep (first : Contents) (e : Event) (old new : Pass LockedFabric Event) : Type 0 where
   pub own_is : own new ≡ own old ++ e ∷ []
   -- the entries between the opening and this one
   pub since : List Event
   pub seen_is : seen new ≡ (frames_of first.events ++ since) ++ e ∷ []
   pub earlier : IsPrefix (seen old) (frames_of first.events ++ since)
-  pub legal : (J : Journal) → Legal first.settings J → Stands first J → Legal first.settings (e ∷ followed J since)
+  pub legal : LegalFrom first.settings first.state (e ∷ followed [] since)
 
 -- A closed fabric has grown out of the opened one by the entries since the opening: those of each port are the list that the
 -- root kept for it, a port without a list has none, and the root has seen no others.

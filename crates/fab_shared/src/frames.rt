@@ -5,7 +5,7 @@ ghost use Rattle.fab_shared.specs.Handled.{CanTake, HandledPort, HandledShelves}
 
 use fab_base::{Gate, NoMemory, PortNo};
 use fab_gather::Shelf;
-use fab_policy::{Verdict, entries_come_in_parts, fabric_steps};
+use fab_policy::{Verdict, entries_come_in_parts};
 use forward_core::{Fabric, StepFault, granted_address};
 use heard_frames::hear;
 use pcap_file::Record;
@@ -66,8 +66,6 @@ fn take_record(
     requires port { (1 ≤ port) × (port ≤ fabric.old.count) }
     ensures handled { OnOk result (HandledPort port index (found.now ∷ []) fabric.old fabric.new) }
 {
-    // Law: a fabric grows by each frame that it takes with a right verdict, as handled wants it.
-    fabric_steps();
     match fabric.step(alloc, port, index, &hear(&found.caught), None) {
         Ok(verdict) => Ok(verdict),
         Err(StepFault::Memory) => Err(NoMemory),

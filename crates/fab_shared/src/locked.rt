@@ -13,7 +13,7 @@ pub struct LockedFabric {
 pub type Pass = fab_turn::Pass<LockedFabric>;
 
 impl Chronicle for LockedFabric {
-    ghost use Rattle.fab_policy.specs.Standing.{Grown, grown_of_itself};
+    ghost use Rattle.fab_states.specs.Went.{Grown, grown_of_itself};
     ghost use Rattle.fab_shared.specs.Frames.{frames_of, port_of_event};
 
     type Entry = Event;

@@ -10,7 +10,8 @@ ghost use Rattle.fab_shared.specs.Shared.{opened, IsStep, Closes};
 
 use crate::locked::{LockedFabric, Pass};
 use fab_base::{NoMemory, PortNo};
-use fab_policy::{Verdict, fabric_steps};
+use fab_policy::Verdict;
+use fab_states::fabrics_go_on;
 use fab_turn::TurnLock;
 use forward_core::{Fabric, StepFault};
 use heard_frames::Heard;
@@ -75,7 +76,7 @@ impl SharedFabric {
         ensures refused { OnErr result (own pass.new ≡ own pass.old) }
     {
         // Law: a fabric grows by a frame that it takes with a right verdict, as a turn's end wants.
-        fabric_steps();
+        fabrics_go_on();
         let Some(port) = pass.port() else {
             unreachable!()
         };

@@ -9,13 +9,11 @@ use Rattle.fab_base.proofs.EndingLemmas.{none_then, none_yet}
 use Rattle.fab_base.proofs.SeenLemmas.{rose_later, touches_refl, touches_trans, touches_wider}
 use Rattle.fab_config.specs.Settings.{Settings}
 use Rattle.fab_policy.specs.Growing.{AllBelow}
-use Rattle.fab_policy.specs.Journal.{followed}
-use Rattle.fab_policy.specs.Legal.{Run}
 use Rattle.fab_gather.specs.Looks.{stop}
-use Rattle.fab_policy.specs.Outputs.{State, state_of}
-use Rattle.fab_policy.specs.Standing.{Contents, sent_after}
-use Rattle.fab_policy.specs.Text.{text, head_line}
-use Rattle.pcap_file.specs.Capture.{head_bytes}
+use Rattle.fab_policy.specs.Standing.{Contents}
+use Rattle.fab_policy.specs.State.{now_of}
+use Rattle.fab_states.proofs.WrittenLemmas.{piece-none, sent-none}
+use Rattle.std.proofs.lemmas.List.{append-nil}
 use Rattle.pcap_file.specs.declared.Budget.{Budget}
 use Rattle.pcap_file.specs.declared.Record.{Record}
 use Rattle.fab_gather.specs.declared.shelf.Input.{Input}
@@ -34,12 +32,13 @@ use Rattle.fab_gather.proofs.UsesLemmas.{uses_rose, uses_touches}
 use Rattle.fab_gather.proofs.StayLemmas.{LeftStays, opened_stay}
 use Rattle.fab_gather.proofs.WalkedLemmas.{next_later, next_soon, walked_before, walked_first, walked_next}
 use Rattle.fab_windows.specs.declared.Done.{Done}
-use Rattle.fab_windows.specs.Files.{AreFiles, Written, Pending, Hold, Wholes, Fronts, Writes, captures, file_slots}
+use Rattle.fab_windows.specs.Files.{AreFiles, Written, Pending, Hold, Writes, file_slots}
+use Rattle.fab_windows.specs.From.{FrontsOn, IsRunOn, RunsOn, StoppedOn, WholesOn, captures_on, journal_on}
 use Rattle.run_files.specs.Pages.{piece_at}
 use Rattle.fab_windows.specs.Pages.{IsNothing}
-use Rattle.fab_windows.specs.Run.{AreGiven, Runs, Stopped}
+use Rattle.fab_windows.specs.Run.{AreGiven}
 use Rattle.fab_windows.specs.Turns.{Laws, Task, captures_in, start_of, Touched, Begun, Reached, Going, Ended, Finishes}
-use Rattle.fab_windows.proofs.EndLemmas.{whole_is_front, ends_before, stops_first, finished}
+use Rattle.fab_windows.proofs.EndLemmas.{whole_is_front, ends_before, stops_first, finished, no_records, none_run}
 use Rattle.fab_windows.proofs.PublishLemmas.{wholes_but_nothing, flushed_whole, flushed_part}
 use Rattle.fab_windows.proofs.StayLemmas.{hold_stays, writing_leaves}
 use Rattle.fab_windows.proofs.UsesLemmas.{writing_touches}
@@ -55,12 +54,12 @@ module _ (laws : Laws) (k : Task) (given : AreGiven k.seen k.ins k.journal k.out
   pub ended_at_once : Ended k k.seen fault.Memory
   ended_at_once =
       ended k k.seen fault.Memory (touches_refl Ours (Touched k) k.seen) (λ told x. absurd x) (λ told x. absurd (cc))
-      (λ told x. ends_before k.settings k.budget (captures_in k) laws.nothing_run (Fronts k.settings k.seen k.journal k.outs) (record {
+      (λ told x. ends_before k.settings k.origin k.budget (captures_in k) laws.nothing_run (FrontsOn k.settings k.origin k.seen k.journal k.outs) (record {
         before = None;
         begins = tt;
         hold = record {
-          lines_ = ([], (given.empty told).0, (text [], refl));
-          records = λ q lt. ([], (given.empty told).1 q lt, (captures k.settings (length k.outs) [] q, refl));
+          lines_ = ([], (given.empty told).0, (journal_on k.origin [], refl));
+          records = λ q lt. ([], (given.empty told).1 q lt, (captures_on k.settings k.origin (length k.outs) [] q, refl));
           order = inl (record { lines_ = ([], (given.empty told).0, ([], refl)); records = (given.empty told).1 });
         };
       }))
@@ -69,11 +68,15 @@ module _ (laws : Laws) (k : Task) (given : AreGiven k.seen k.ins k.journal k.out
   hold_none : IsTrue k.seen.told → Hold k.seen k.journal k.outs [] (λ q. [])
   hold_none told = record { lines_ = (given.empty told).0; records = (given.empty told).1 }
 
-  module _ (pieces : List (List ℕ)) (heads : (q : ℕ) → q < length k.outs → piece_at pieces q ≡ head_bytes) (a : Seen) where
-    records_are : (q : ℕ) → q < length k.outs → captures k.settings (length k.outs) [] q ≡ [] ++ piece_at pieces q
-    records_are q lt = laws.nothing_written.1 k.settings (length k.outs) (q + 1) ∙ sym (heads q lt)
+  line_is : journal_on k.origin [] ≡ k.origin.heads.lines
+  line_is = ap (λ l. k.origin.heads.lines ++ l) (piece-none (now_of k.origin.state.tables)) ∙ append-nil k.origin.heads.lines
 
-    module _ {r : Result (Unit {0}) Failed} (w : Writes k.journal k.outs head_line pieces k.seen a r) where
+  module _ (pieces : List (List ℕ)) (heads : (q : ℕ) → q < length k.outs → piece_at pieces q ≡ k.origin.heads.records_of q) (a : Seen) where
+    records_are : (q : ℕ) → q < length k.outs → captures_on k.settings k.origin (length k.outs) [] q ≡ [] ++ piece_at pieces q
+    records_are q lt =
+        ap (λ l. k.origin.heads.records_of q ++ l) (sent-none k.settings (length k.outs) (q + 1) k.origin.state) ∙ append-nil (k.origin.heads.records_of q) ∙ sym (heads q lt)
+
+    module _ {r : Result (Unit {0}) Failed} (w : Writes k.journal k.outs k.origin.heads.lines pieces k.seen a r) where
       touches_heads : Touches Ours (Touched k) k.seen a
       touches_heads = touches_wider Ours Ours Ours (Touched k) k.seen a (λ m h. h) (λ m h. inl h) (writing_touches Ours k.seen a w.uses)
 
@@ -81,19 +84,19 @@ module _ (laws : Laws) (k : Task) (given : AreGiven k.seen k.ins k.journal k.out
       lefts_heads = writing_leaves k.journal k.outs k.seen a k.ins w.uses given.inputs given.apart
 
     -- a head that can't be written
-    pub ended_heads : (f : Failed) → Writes k.journal k.outs head_line pieces k.seen a (Err f) → Ended k a fault.Write
+    pub ended_heads : (f : Failed) → Writes k.journal k.outs k.origin.heads.lines pieces k.seen a (Err f) → Ended k a fault.Write
     ended_heads f w =
         ended k a fault.Write (touches_heads w) (λ told x. absurd x) (λ told x. absurd (cc))
-        (λ told x. ends_before k.settings k.budget (captures_in k) laws.nothing_run (Fronts k.settings a k.journal k.outs)
-        (record { before = None; begins = tt; hold = w.front told [] (text []) (λ q. []) (captures k.settings (length k.outs) []) (hold_none told) laws.nothing_written.0 records_are }))
+        (λ told x. ends_before k.settings k.origin k.budget (captures_in k) laws.nothing_run (FrontsOn k.settings k.origin a k.journal k.outs)
+        (record { before = None; begins = tt; hold = w.front told [] (journal_on k.origin []) (λ q. []) (captures_on k.settings k.origin (length k.outs) []) (hold_none told) line_is records_are }))
         (λ x. absurd (cc), λ x. w.uses.counts.0, tt)
 
-    module _ (w : Writes k.journal k.outs head_line pieces k.seen a (Ok tt)) (d : Seen) (ins : List Input) (left : Budget) where
+    module _ (w : Writes k.journal k.outs k.origin.heads.lines pieces k.seen a (Ok tt)) (d : Seen) (ins : List Input) (left : Budget) where
       opened_then : opened_in a k.ins ≡ captures_in k
       opened_then = opened_stay k.seen a k.ins (lefts_heads w)
 
-      wholes_then : IsTrue k.seen.told → Wholes k.settings a k.journal k.outs []
-      wholes_then told = w.whole told [] (text []) (λ q. []) (captures k.settings (length k.outs) []) (hold_none told) laws.nothing_written.0 records_are
+      wholes_then : IsTrue k.seen.told → WholesOn k.settings k.origin a k.journal k.outs []
+      wholes_then told = w.whole told [] (journal_on k.origin []) (λ q. []) (captures_on k.settings k.origin (length k.outs) []) (hold_none told) line_is records_are
 
       told_then : IsTrue k.seen.told → IsTrue a.told
       told_then told = subst IsTrue (sym w.uses.touches.told) told
@@ -108,8 +111,8 @@ module _ (laws : Laws) (k : Task) (given : AreGiven k.seen k.ins k.journal k.out
         touches_looks : Touches Ours (Touched k) k.seen d
         touches_looks = touches_trans Ours (Touched k) k.seen a d (touches_heads w) (touches_wider Nothing (NameIn a (slots_of k.ins)) Ours (Touched k) a d (λ m x. absurd x) (λ m h. inr (name_then m h)) touch)
 
-        wholes_looks : IsTrue k.seen.told → Wholes k.settings d k.journal k.outs []
-        wholes_looks told = hold_stays (NameIn a (slots_of k.ins)) a d touch k.journal k.outs w.files (text []) (captures k.settings (length k.outs) []) (wholes_then told)
+        wholes_looks : IsTrue k.seen.told → WholesOn k.settings k.origin d k.journal k.outs []
+        wholes_looks told = hold_stays (NameIn a (slots_of k.ins)) a d touch k.journal k.outs w.files (journal_on k.origin []) (captures_on k.settings k.origin (length k.outs) []) (wholes_then told)
 
       -- a fault at the first looks
       pub ended_looks : (e : GatherFault) → LooksFirst k.settings (start_at a k.ins k.budget) (start_at d ins left) (Err e) → Ended k d (fault_from e)
@@ -117,10 +120,10 @@ module _ (laws : Laws) (k : Task) (given : AreGiven k.seen k.ins k.journal k.out
           ended k d (fault_from e) (touches_looks f.uses)
           (λ told stops.
           let s = f.stops (told_then told) (stopped_from e stops) in
-          subst (λ x. Stopped k.settings k.budget (captures_in k) d k.journal k.outs (fault_from x)) s.2
-          (stops_first k.settings k.budget (captures_in k) laws.nothing_run d k.journal k.outs s.0 (sym (ap (stop k.settings k.budget.bytes k.budget.frames) opened_then) ∙ s.1) s.3 (wholes_looks f.uses told)))
-          (λ told x. ends_before k.settings k.budget (captures_in k) laws.nothing_run (Wholes k.settings d k.journal k.outs) (wholes_looks f.uses told))
-          (λ told x. ends_before k.settings k.budget (captures_in k) laws.nothing_run (Fronts k.settings d k.journal k.outs) (whole_is_front k.settings d k.journal k.outs [] (wholes_looks f.uses told))) (
+          subst (λ x. StoppedOn k.settings k.origin k.budget (captures_in k) d k.journal k.outs (fault_from x)) s.2
+          (stops_first k.settings k.origin k.budget (captures_in k) laws.nothing_run d k.journal k.outs s.0 (sym (ap (stop k.settings k.budget.bytes k.budget.frames) opened_then) ∙ s.1) s.3 (wholes_looks f.uses told)))
+          (λ told x. ends_before k.settings k.origin k.budget (captures_in k) laws.nothing_run (WholesOn k.settings k.origin d k.journal k.outs) (wholes_looks f.uses told))
+          (λ told x. ends_before k.settings k.origin k.budget (captures_in k) laws.nothing_run (FrontsOn k.settings k.origin d k.journal k.outs) (whole_is_front k.settings k.origin d k.journal k.outs [] (wholes_looks f.uses told))) (
             λ x.
                 let cause = uses_rose (NameIn a (slots_of k.ins)) a d f.uses (ap gather_end (read_from e x)) in
                 (cause.0, name_then cause.0 cause.1, rose_later _ _ _ (w.uses.touches.reads_rise cause.0) cause.2),
@@ -153,17 +156,14 @@ length-none : (ins : List Input) → length (map {B = List Record} (λ i. []) in
 length-none [] = refl
 length-none (i ∷ ins) = ap suc (length-none ins)
 
-abbrev no_records : List Record
-no_records = []
-
 none_none : (ins : List Input) → map (λ (l : List Record). no_records) (map (λ (i : Input). no_records) ins) ≡ map (λ (i : Input). no_records) ins
 none_none [] = refl
 none_none (i ∷ ins) = ap (λ l. [] ∷ l) (none_none ins)
 
 module _ (laws : Laws) (k : Task) (d : Seen) (ins : List Input) (shelves : List Shelf) (left : Budget) (b : Begun k (walk_at d ins shelves left)) where
-  pub going_first : (F : Contents) (o : Option ℕ) (done : Done) (p : Pending) → IsNothing p → F.settings ≡ k.settings → F.count ≡ length k.ins → F.state ≡ state_of F.settings [] → F.events ≡ [] → F.outs ≡ [] →
+  pub going_first : (F : Contents) (o : Option ℕ) (done : Done) (p : Pending) → IsNothing p → F.settings ≡ k.settings → F.count ≡ length k.ins → F.state ≡ k.origin.state → IfSome F.state.tables.clock (λ t. t < 0) → F.events ≡ [] → F.outs ≡ [] →
       IsNextWindow k.settings shelves o → done.frames ≡ 0 → done.entries ≡ 0 → Going k 0 (unwrap_or o 0) F (walk_at d ins shelves left) done p
-  going_first F o done p none settings count state events outs next frames entries = record {
+  going_first F o done p none settings count state early events outs next frames entries = record {
     reached = record {
       given = b.given;
       ports = b.ports;
@@ -175,18 +175,19 @@ module _ (laws : Laws) (k : Task) (d : Seen) (ins : List Input) (shelves : List 
       walked = b.walked o next;
       entry_list = [];
       sofar = record {
-        run = record { ranged = tt; run = subst (λ l. Run k.settings l []) (none_none k.ins) (laws.nothing_run k.settings (map (λ i. []) k.ins)).0 };
+        ranged = tt;
+        run = (subst (λ l. IsRunOn k.settings k.origin l []) (none_none k.ins) (none_run k.settings k.origin k.budget (captures_in k) (map (λ i. []) k.ins))).run;
         width = length-none k.ins;
         below = below_none k.settings k.ins;
-        stands = record { state = state; older = []; events = sym (ap (followed []) events); outs = outs ∙ sym (ap (sent_after F.settings F.count []) events) };
+        state = state;
         settings = settings;
         count = count;
         events = events;
         outs = outs;
       };
-      clock = subst (λ x. IfSome x (λ t. t < 0)) (sym (ap (λ (S : State). S.tables.clock) state)) tt;
+      clock = early;
     };
-    files = λ told. wholes_but_nothing p k.settings d k.journal k.outs [] none (b.whole told);
+    files = λ told. wholes_but_nothing p k.settings k.origin d k.journal k.outs [] none (b.whole told);
     frames = frames;
     entries = entries;
   }
@@ -221,10 +222,11 @@ module _ (laws : Laws) (k : Task) (v w first : ℕ) (F : Contents) (d : Seen) (i
       walked = walked_then;
       entry_list = r.entry_list;
       sofar = record {
+        ranged = r.sofar.ranged;
         run = r.sofar.run;
         width = r.sofar.width;
         below = (laws.read_below k.settings w (captures_in k) r.taken ins shelves d walked_then.read).1;
-        stands = r.sofar.stands;
+        state = r.sofar.state;
         settings = r.sofar.settings;
         count = r.sofar.count;
         events = r.sofar.events;
@@ -248,15 +250,15 @@ module _ (laws : Laws) (k : Task) (w first : ℕ) (F : Contents) (d : Seen) (ins
   files_end = files_now laws k w first F d ins shelves left g.reached
 
   -- what was still to be written is
-  ended_well : Writes k.journal k.outs p.lines p.pieces d z (Ok tt) → Runs k.settings (start_at k.seen k.ins k.budget) z (file_slots k.journal k.outs) (Ok done)
+  ended_well : Writes k.journal k.outs p.lines p.pieces d z (Ok tt) → RunsOn k.settings k.origin (start_at k.seen k.ins k.budget) z (file_slots k.journal k.outs) (Ok done)
   ended_well x =
       let r = reached_on laws k w first F d ins shelves left g.reached z x.uses x.uses.counts in
       record {
         touches = r.touches;
         ends = λ told.
             let read = laws.read_all k.settings w (captures_in k) r.taken ins shelves z (subst IsTrue (sym r.touches.told) told) r.walked.read next in
-            finished k.settings k.budget (captures_in k) r.taken r.entry_list z k.journal k.outs done r.sofar.run (r.walked.stops told ∙ laws.none_left k.settings first z ins shelves left next) read.0 read.1
-            (flushed_whole p k.settings d z k.journal k.outs g.reached.entry_list (told_end told) (g.files told) x) g.frames g.entries;
+            finished k.settings k.origin k.budget (captures_in k) r.taken r.entry_list z k.journal k.outs done (record { ranged = r.sofar.ranged; run = r.sofar.run }) (r.walked.stops told ∙ laws.none_left k.settings first z ins shelves left next) read.0 read.1
+            (flushed_whole p k.settings k.origin d z k.journal k.outs g.reached.entry_list (told_end told) (g.files told) x) g.frames g.entries;
         read = λ y. absurd (cc);
         write = λ y. absurd (cc);
         counts = r.faults;
@@ -266,10 +268,10 @@ module _ (laws : Laws) (k : Task) (w first : ℕ) (F : Contents) (d : Seen) (ins
   ended_broken : (f : Failed) → Writes k.journal k.outs p.lines p.pieces d z (Err f) → Ended k z fault.Write
   ended_broken f x =
       ended_writing laws k w first F d ins shelves left g.reached z fault.Write x.uses tt
-      (λ told. flushed_part p k.settings d z k.journal k.outs g.reached.entry_list (told_end told) (g.files told) x)
+      (λ told. flushed_part p k.settings k.origin d z k.journal k.outs g.reached.entry_list (told_end told) (g.files told) x)
 
-  pub ended_by : (r : Result Done RunFault) → Finishes k.journal k.outs p done d z r → Runs k.settings (start_at k.seen k.ins k.budget) z (file_slots k.journal k.outs) r
-  ended_by (Ok told) h = subst (λ x. Runs k.settings (start_at k.seen k.ins k.budget) z (file_slots k.journal k.outs) (Ok x)) (sym h.1) (ended_well h.0)
+  pub ended_by : (r : Result Done RunFault) → Finishes k.journal k.outs p done d z r → RunsOn k.settings k.origin (start_at k.seen k.ins k.budget) z (file_slots k.journal k.outs) r
+  ended_by (Ok told) h = subst (λ x. RunsOn k.settings k.origin (start_at k.seen k.ins k.budget) z (file_slots k.journal k.outs) (Ok x)) (sym h.1) (ended_well h.0)
   ended_by (Err e) h = subst (Ended k z) (sym h.2) (ended_broken h.0 h.1)
 
 -- the captures are still open when the heads are written

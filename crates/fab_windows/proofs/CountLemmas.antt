@@ -1,14 +1,14 @@
 -- How many frames and entries a run makes: not more than the captures have bytes, and windows.
-use Rattle.std.proofs.Common.{◌≡◌, ◌≢◌, inl, inr, ℕ, zero, suc, ◌+◌, ◌%◌, ◌<◌, ◌≤◌, ◌⊎◌, Bool, cond, List, [], ◌∷◌, ◌++◌, length, Option, Some, None, IfSome, IsTrue, option_to_list, refl, sym, ap, ◌∙◌, arith, length-append}
-use Rattle.std.specs.Prelude.{false, slice_get, drop}
+use Rattle.std.proofs.Common.{◌≡◌, ◌≢◌, inl, inr, ℕ, zero, suc, ◌+◌, ◌<◌, ◌≤◌, Bool, cond, List, [], ◌∷◌, ◌++◌, length, Some, option_to_list, refl, sym, ap, ◌∙◌, arith, length-append}
+use Rattle.std.specs.Prelude.{slice_get, drop}
 use Rattle.std.proofs.lemmas.Bool.{eq-eqb, ne_eqb}
 use Rattle.std.proofs.lemmas.List.{append-nil}
 use Rattle.pcap_file.proofs.lemmas.Numbers.{le_or_lt}
 use Rattle.fab_base.specs.Seen.{Seen}
 use Rattle.fab_base.specs.declared.values.Caught.{Caught}
 use Rattle.fab_config.specs.Settings.{Settings}
-use Rattle.fab_policy.specs.Journal.{Journal, followed, clock, frame_count}
-use Rattle.fab_policy.specs.Legal.{Run, Timed, HasPorts, HoldsFrames, of_port, numbered_from, IsNextTick, IsTickTime, is_owed_after}
+use Rattle.fab_policy.specs.Journal.{Journal, followed, frame_count}
+use Rattle.fab_policy.specs.Legal.{HasPorts, HoldsFrames, of_port, numbered_from}
 use Rattle.fab_gather.specs.Looks.{Opened}
 use Rattle.fab_policy.specs.declared.event.Event.{Event}
 use Rattle.fab_policy.specs.declared.event.Event.TheVariants.{Tick, Frame}
@@ -93,44 +93,11 @@ taken_were_found c w (o ∷ opened) (records ∷ taken) [] shelves d h = absurd 
 taken_were_found c w (o ∷ opened) (records ∷ taken) (i ∷ ins) [] d h = absurd h
 
 pub frames_found : (c : Settings) (n w : ℕ) (opened : List Opened) (taken : List (List Record)) (J : Journal) (ins : List Input) (shelves : List Shelf) (d : Seen) →
-    length taken ≡ n → Run c taken J → HaveRead c w opened taken ins shelves d → frame_count J ≤ counts_of shelves
-frames_found c n w opened taken J ins shelves d width run read =
-    let a = frames_by_port (length taken) J run.ports ∙ frames_held 1 taken J run.frames in
+    length taken ≡ n → HasPorts (length taken) J → HoldsFrames J 1 taken → HaveRead c w opened taken ins shelves d → frame_count J ≤ counts_of shelves
+frames_found c n w opened taken J ins shelves d width ports held read =
+    let a = frames_by_port (length taken) J ports ∙ frames_held 1 taken J held in
     let b = taken_were_found c w opened taken ins shelves d read in
     omega (arith, a, b)
-
--- ---- ticks
-
--- how many moments there are up to a clock
-abbrev moments : Option ℕ → ℕ
-moments None = 0
-moments (Some t) = t + 1
-
--- a tick comes behind the clock
-behind_clock : (c : Settings) (J : Journal) (w m : ℕ) → IsNextTick c J w m → moments (clock J) ≤ m
-behind_clock c J w m h = go (clock J) h
-  where
-    go : (o : Option ℕ) → elim o as (λ _. Type 0) [
-      | None ↦ m ≡ w
-      | Some t ↦ (t < m) × (m ≤ w) × ((m ≡ w) ⊎ IsTrue (is_owed_after c J m)) × (m % c.window ≡ 0) × ((k : ℕ) → IsTickTime c J k → k < m → is_owed_after c J k ≡ false)
-    ] → moments o ≤ m
-    go None e = omega arith
-    go (Some t) e = omega (arith, e.0)
-
-ticks_are_few : (c : Settings) (ins : List (List Record)) (J : Journal) → Timed c ins J → length J ≤ frame_count J + moments (clock J)
-ticks_are_few c ins [] h = omega arith
-ticks_are_few c ins (Tick m ended ∷ J) h =
-    let before = ticks_are_few c ins J h.0 in
-    let behind = behind_clock c J h.1.0 m h.1.2 in
-    omega (arith, before, behind)
-ticks_are_few c ins (Frame port index caught v ∷ J) h = let before = ticks_are_few c ins J h.0 in omega (arith, before)
-
-pub entries_few : (c : Settings) (ins : List (List Record)) (J : Journal) (w : ℕ) → Timed c ins J → IfSome (clock J) (λ t. t < w) → length J ≤ frame_count J + w
-entries_few c ins J w h below = let few = ticks_are_few c ins J h in let within = go (clock J) below in omega (arith, few, within)
-  where
-    go : (o : Option ℕ) → IfSome o (λ t. t < w) → moments o ≤ w
-    go None b = omega arith
-    go (Some t) b = omega (arith, b)
 
 -- ---- entries behind others
 

@@ -1,5 +1,5 @@
 -- A window that was gathered and handled: what stands after it, before and behind its writing.
-use Rattle.std.proofs.Common.{◌≡◌, ℕ, suc, ◌+◌, ◌^◌, ◌<◌, ◌≤◌, List, [], ◌∷◌, ◌++◌, length, map, Option, Some, IfSome, IsTrue, Result, Ok, Err, inl, inr, take, drop, refl, sym, ap, ◌∙◌, subst, arith}
+use Rattle.std.proofs.Common.{◌≡◌, ℕ, suc, ◌+◌, ◌^◌, ◌<◌, ◌≤◌, List, [], ◌∷◌, ◌++◌, length, map, Some, IfSome, IsTrue, Result, Ok, Err, inl, inr, take, drop, refl, sym, ap, ◌∙◌, subst, arith, append_assoc}
 use Rattle.std.specs.Prelude.{unwrap_or}
 use Rattle.fab_base.specs.Ending.{End, Uses}
 use Rattle.fab_base.specs.Seen.{Seen, Nothing}
@@ -7,12 +7,17 @@ use Rattle.fab_base.specs.declared.values.Failed.{Failed}
 use Rattle.fab_config.specs.Settings.{Settings}
 use Rattle.fab_policy.specs.Growing.{lines_from, records_to, with_more}
 use Rattle.fab_policy.specs.Journal.{Journal, followed, frame_count}
-use Rattle.fab_policy.specs.Legal.{Legal}
-use Rattle.fab_policy.specs.Standing.{Contents, drained, sent_after}
-use Rattle.fab_policy.specs.Text.{text}
+use Rattle.fab_policy.specs.Outputs.{State}
+use Rattle.fab_policy.specs.Standing.{Contents, drained}
+use Rattle.fab_policy.specs.State.{now_of}
 use Rattle.fab_policy.specs.declared.event.Event.{Event}
-use Rattle.fab_messages.specs.Message.{sent_of}
-use Rattle.fab_messages.specs.declared.message.Out.{Out}
+use Rattle.fab_states.specs.Runs.{counts_on, none_of}
+use Rattle.fab_states.specs.States.{sent_on, state_on}
+use Rattle.fab_states.specs.Written.{clock_on, piece_records, piece_text}
+use Rattle.fab_states.proofs.NothingLemmas.{held_nothing}
+use Rattle.fab_states.proofs.WrittenLemmas.{clock-on}
+use Rattle.fab_sending.specs.Message.{sent_of}
+use Rattle.fab_sending.specs.declared.message.Out.{Out}
 use Rattle.forward_core.specs.Fabric.{AreRanged}
 use Rattle.pcap_file.specs.declared.Budget.{Budget}
 use Rattle.pcap_file.specs.declared.Record.{Record}
@@ -26,17 +31,18 @@ use Rattle.fab_base.specs.Slots.{NameIn}
 use Rattle.fab_gather.specs.Ports.{slots_of, walk_at}
 use Rattle.fab_gather.specs.Reads.{batches_of}
 use Rattle.fab_windows.specs.declared.Done.{Done}
-use Rattle.fab_windows.specs.Files.{AreFiles, Pending, GoesOn, WholesBut, Writes, captures, file_slots}
+use Rattle.fab_windows.specs.Files.{AreFiles, Pending, GoesOn, Writes, file_slots}
+use Rattle.fab_windows.specs.From.{WholesButOn, captures_on, journal_on}
 use Rattle.fab_pages.specs.Pages.{AreEarly}
 use Rattle.fab_windows.specs.Pages.{FlushedFor}
 use Rattle.run_files.specs.Faults.{fault_from}
 use Rattle.fab_base.proofs.EndingLemmas.{none_then}
-use Rattle.fab_windows.specs.Steps.{Sofar}
+use Rattle.fab_windows.specs.Steps.{NotAfter, Sofar}
 use Rattle.fab_windows.specs.Turns.{Laws, Task, captures_in, start_of, Reached, Going, Gathered, Ended, Handles, Publishes, paged_at}
 use Rattle.fab_gather.specs.Gather.{Gathers}
 use Rattle.fab_windows.specs.Window.{Ticked, Handled, firsts_of}
-use Rattle.fab_windows.proofs.CountLemmas.{frames_found, entries_few, length-followed, frames-followed}
-use Rattle.fab_windows.proofs.SentLemmas.{NotAfter, outs_are, outs_early, early, clock_is}
+use Rattle.fab_windows.proofs.CountLemmas.{frames_found, length-followed, frames-followed}
+use Rattle.fab_windows.proofs.SofarLemmas.{counts-none, early, none-more, outs_are}
 use Rattle.fab_pages.proofs.PageLemmas.{front_of}
 use Rattle.fab_gather.specs.Walked.{Walked}
 use Rattle.fab_gather.proofs.SlotLemmas.{same_length}
@@ -83,17 +89,25 @@ module _ (laws : Laws) (k : Task) (w first : ℕ) (F : Contents) (d : Seen) (ins
   width : length r.taken ≡ length shelves'
   width = r.sofar.width ∙ sym (same_length k.ins ins r.walked.slots) ∙ sym r.walked.count ∙ sym t.count
 
-  pub sofar_on : Sofar c (length k.ins) (w + 1) taken' K E
+  -- the next indexes are how many were taken, and go on to be
+  firsts_are : firsts_of shelves' ≡ counts_on (none_of r.taken) r.taken
+  firsts_are = laws.firsts_taken c (w + 1) (captures_in k) r.taken ins' shelves' b width walked_after.read ∙ sym (counts-none r.taken)
+
+  frames_here : Handled (counts_on (none_of r.taken) r.taken) (batches_of shelves') h.ticked h.handled
+  frames_here = subst (λ l. Handled l (batches_of shelves') h.ticked h.handled) firsts_are h.frames
+
+  pub sofar_on : Sofar c k.origin.state (none_of taken') (length k.ins) (w + 1) taken' K E
   sofar_on =
       let moved = laws.moves c w (walk_at d ins shelves left) (walk_at b ins' shelves' left') r.walked.count (same_length ins ins' t.slots) t.count next t.took t.ready t.spent in
       let n : length (batches_of shelves') ≡ length k.ins = length-batches shelves' ∙ sym width ∙ r.sofar.width in
-      let frames = subst (λ l. Handled l (batches_of shelves') h.ticked h.handled) (laws.firsts_taken c (w + 1) (captures_in k) r.taken ins' shelves' b width walked_after.read) h.frames in
       let ranged = subst AreRanged h.events_ h.ranged in
-      let s = laws.windows_run c (length k.ins) w w r.taken (batches_of shelves') r.entry_list F h.ticked h.handled r.sofar (let le : w ≤ w + 1 = omega arith in le) n moved.batches moved.some h.ticks frames ranged in
-      subst (Sofar c (length k.ins) (w + 1) taken' K) (sym h.after) (subst (λ l. Sofar c (length k.ins) (w + 1) taken' (followed r.entry_list l) (drained h.handled)) (sym h.events_) s)
+      let s = laws.windows_run c k.origin.state (none_of r.taken) (length k.ins) w w r.taken (batches_of shelves') r.entry_list F h.ticked h.handled r.sofar (let le : w ≤ w + 1 = omega arith in le) n moved.batches moved.some h.ticks frames_here ranged in
+      subst (λ l. Sofar c k.origin.state l (length k.ins) (w + 1) taken' K E) (sym (none-more r.taken (batches_of shelves')))
+      (subst (Sofar c k.origin.state (none_of r.taken) (length k.ins) (w + 1) taken' K) (sym h.after)
+      (subst (λ l. Sofar c k.origin.state (none_of r.taken) (length k.ins) (w + 1) taken' (followed r.entry_list l) (drained h.handled)) (sym h.events_) s))
 
-  pub clock_on : E.state.tables.clock ≡ Some w
-  clock_on = ap (λ (G : Contents). G.state.tables.clock) h.after ∙ h.frames.grown.clock ∙ h.ticks.at_clock
+  pub clock_set : E.state.tables.clock ≡ Some w
+  clock_set = ap (λ (G : Contents). G.state.tables.clock) h.after ∙ h.frames.grown.clock ∙ h.ticks.at_clock
 
   abbrev pub reached_after : Reached k (w + 1) first E (walk_at b ins' shelves' left')
   reached_after = record {
@@ -107,7 +121,7 @@ module _ (laws : Laws) (k : Task) (w first : ℕ) (F : Contents) (d : Seen) (ins
     walked = walked_after;
     entry_list = K;
     sofar = sofar_on;
-    clock = subst (λ o. IfSome o (λ u. u < w + 1)) (sym clock_on) (omega arith);
+    clock = subst (λ o. IfSome o (λ u. u < w + 1)) (sym clock_set) (omega arith);
   }
 
   -- ---- what it adds to the files
@@ -115,40 +129,45 @@ module _ (laws : Laws) (k : Task) (w first : ℕ) (F : Contents) (d : Seen) (ins
   settings_same : F.settings ≡ c
   settings_same = r.sofar.settings
 
-  legal_here : Legal F.settings r.entry_list
-  legal_here = subst (λ s. Legal s r.entry_list) (sym settings_same) r.sofar.run.run.legal
-
-  sent_here : map (sent_of F.settings events) outs ≡ sent_after c (length k.outs) r.entry_list events
+  -- what it sends is what its entries send
+  sent_here : map (sent_of F.settings events) outs ≡ sent_on c (length k.outs) (state_on c k.origin.state r.entry_list) (followed [] events)
   sent_here =
       h.outs_
-      ∙ outs_are laws w F h.ticked h.handled (firsts_of shelves') (batches_of shelves') h.ticks h.frames r.sofar.events r.entry_list legal_here r.sofar.stands
-      ∙ ap (λ l. sent_after F.settings F.count r.entry_list l) (sym h.events_)
-      ∙ ap (λ s. sent_after s F.count r.entry_list events) settings_same
-      ∙ ap (λ n. sent_after c n r.entry_list events) (r.sofar.count ∙ sym r.outputs)
+      ∙ outs_are w F h.ticked h.handled (firsts_of shelves') (batches_of shelves') h.ticks h.frames r.sofar.events r.sofar.outs
+      ∙ ap (λ l. sent_on F.settings F.count F.state (followed [] l)) (sym h.events_)
+      ∙ ap (λ s. sent_on s F.count F.state (followed [] events)) settings_same
+      ∙ ap (λ n. sent_on c n F.state (followed [] events)) (r.sofar.count ∙ sym r.outputs)
+      ∙ ap (λ B. sent_on c (length k.outs) B (followed [] events)) r.sofar.state
 
   pub early_here : w < 2 ^ 53 → AreEarly outs
-  early_here lt =
-      early F.settings events w outs lt
-      (subst (NotAfter w) (sym h.outs_) (outs_early laws w F h.ticked h.handled (firsts_of shelves') (batches_of shelves') h.ticks h.frames r.sofar.events r.entry_list legal_here r.sofar.stands))
+  early_here lt = early F.settings events w outs lt (subst (NotAfter w) (sym h.outs_) (laws.early w F h.ticked h.handled r.sofar.outs h.ticks h.frames.grown))
 
-  lines_here : text K ≡ text r.entry_list ++ lines_from (unwrap_or F.state.tables.clock 0) events
-  lines_here = laws.text_grows r.entry_list events ∙ ap (λ (o : Option ℕ). text r.entry_list ++ lines_from (unwrap_or o 0) events) (sym (clock_is F r.entry_list r.sofar.stands))
+  -- the clock from which its lines go on
+  clock_here : clock_on (now_of k.origin.state.tables) r.entry_list ≡ unwrap_or F.state.tables.clock 0
+  clock_here = sym (clock-on c k.origin.state r.entry_list) ∙ ap (λ (S : State). now_of S.tables) (sym r.sofar.state)
 
-  records_here : (q : ℕ) → q < length k.outs → captures c (length k.outs) K q ≡ captures c (length k.outs) r.entry_list q ++ records_to (q + 1) (map (sent_of F.settings events) outs)
-  records_here q lt = laws.egress_grows c (length k.outs) (q + 1) r.entry_list events ∙ ap (λ l. captures c (length k.outs) r.entry_list q ++ records_to (q + 1) l) (sym sent_here)
+  lines_here : journal_on k.origin K ≡ journal_on k.origin r.entry_list ++ lines_from (unwrap_or F.state.tables.clock 0) events
+  lines_here =
+      ap (λ l. k.origin.heads.lines ++ l) (laws.text_grows (now_of k.origin.state.tables) r.entry_list events ∙ ap (λ (t : ℕ). piece_text (now_of k.origin.state.tables) r.entry_list ++ lines_from t events) clock_here)
+      ∙ sym (append_assoc k.origin.heads.lines (piece_text (now_of k.origin.state.tables) r.entry_list) (lines_from (unwrap_or F.state.tables.clock 0) events))
+
+  records_here : (q : ℕ) → q < length k.outs → captures_on c k.origin (length k.outs) K q ≡ captures_on c k.origin (length k.outs) r.entry_list q ++ records_to (q + 1) (map (sent_of F.settings events) outs)
+  records_here q lt =
+      ap (λ l. k.origin.heads.records_of q ++ l) (laws.records_grow c (length k.outs) (q + 1) k.origin.state r.entry_list events ∙ ap (λ l. piece_records c (length k.outs) (q + 1) k.origin.state r.entry_list ++ records_to (q + 1) l) (sym sent_here))
+      ∙ sym (append_assoc (k.origin.heads.records_of q) (piece_records c (length k.outs) (q + 1) k.origin.state r.entry_list) (records_to (q + 1) (map (sent_of F.settings events) outs)))
 
   -- what was written before goes on to this journal too
   goes_on : (I : Journal) → GoesOn I r.entry_list → GoesOn I K
   goes_on I h = (h.0 ++ events, ap (λ L. followed L events) h.1 ∙ sym (laws.followed_by I h.0 events))
 
-  module _ (p : Pending) (files : IsTrue k.seen.told → WholesBut p c b k.journal k.outs r.entry_list) (z : Seen) (p' : Pending) where
+  module _ (p : Pending) (files : IsTrue k.seen.told → WholesButOn p c k.origin b k.journal k.outs r.entry_list) (z : Seen) (p' : Pending) where
     told_b : IsTrue k.seen.told → IsTrue b.told
     told_b told = subst IsTrue (sym (t.uses.touches.told ∙ r.touches.told)) told
 
     pub ended_publishing : (e : RunFault) → Publishes (file_slots k.journal k.outs) (lines_from (unwrap_or F.state.tables.clock 0) events) (map (sent_of F.settings events) outs) (paged_at b p) (paged_at z p') (Err e) → Ended k z e
     ended_publishing e x =
         ended_writing laws k (w + 1) first E b ins' shelves' left' reached_after z e x.uses x.only
-        (λ told. let f = files told in record { before = Some f.before; begins = goes_on f.before f.begins; hold = x.front (told_b told) (text f.before) (text r.entry_list) (text K) (captures c (length k.outs) f.before) (captures c (length k.outs) r.entry_list) (captures c (length k.outs) K) f.hold lines_here records_here })
+        (λ told. let f = files told in record { before = Some f.before; begins = goes_on f.before f.begins; hold = x.front (told_b told) (journal_on k.origin f.before) (journal_on k.origin r.entry_list) (journal_on k.origin K) (captures_on c k.origin (length k.outs) f.before) (captures_on c k.origin (length k.outs) r.entry_list) (captures_on c k.origin (length k.outs) K) f.hold lines_here records_here })
 
     module _ (done done' : Done) (frames : done.frames ≡ frame_count r.entry_list) (entries : done.entries ≡ length r.entry_list) where
       pub going_on : Publishes (file_slots k.journal k.outs) (lines_from (unwrap_or F.state.tables.clock 0) events) (map (sent_of F.settings events) outs) (paged_at b p) (paged_at z p') (Ok tt) →
@@ -157,7 +176,7 @@ module _ (laws : Laws) (k : Task) (w first : ℕ) (F : Contents) (d : Seen) (ins
         reached = reached_on laws k (w + 1) first E b ins' shelves' left' reached_after z x.uses x.uses.counts;
         files = λ told.
             let f = files told in
-            elim (x.whole (told_b told) (text f.before) (text r.entry_list) (text K) (captures c (length k.outs) f.before) (captures c (length k.outs) r.entry_list) (captures c (length k.outs) K) f.hold lines_here records_here) [
+            elim (x.whole (told_b told) (journal_on k.origin f.before) (journal_on k.origin r.entry_list) (journal_on k.origin K) (captures_on c k.origin (length k.outs) f.before) (captures_on c k.origin (length k.outs) r.entry_list) (captures_on c k.origin (length k.outs) K) f.hold lines_here records_here) [
               | inl later ↦ record { before = f.before; begins = goes_on f.before f.begins; hold = later }
               | inr all ↦ record { before = K; begins = ([], refl); hold = all }
             ];
@@ -169,8 +188,10 @@ module _ (laws : Laws) (k : Task) (w first : ℕ) (F : Contents) (d : Seen) (ins
       pub room_on : w < 2 ^ 43 → (done.frames + frame_count events < 2 ^ 64) × (done.entries + length events < 2 ^ 64)
       room_on lt =
           let x = reached_after in
-          let found = frames_found c (length k.ins) (w + 1) (captures_in k) taken' K ins' shelves' b x.sofar.width x.sofar.run.run x.walked.read in
-          let few = entries_few c taken' K (w + 1) x.sofar.run.run.timed (subst (λ o. IfSome o (λ u. u < w + 1)) (clock_is E K x.sofar.stands) x.clock) in
+          let ports = x.sofar.run.ports in
+          let held = held_nothing K 1 taken' x.sofar.run.frames in
+          let found = frames_found c (length k.ins) (w + 1) (captures_in k) taken' K ins' shelves' b x.sofar.width ports held x.walked.read in
+          let few = laws.few c k.origin.state (none_of taken') taken' K (w + 1) x.sofar.run.timed (subst (λ (S : State). IfSome S.tables.clock (λ u. u < w + 1)) x.sofar.state x.clock) in
           let a = frames-followed r.entry_list events in
           let e = length-followed r.entry_list events in
           let bytes = x.walked.spent.bytes in
@@ -199,7 +220,7 @@ module _ (laws : Laws) (k : Task) (w first : ℕ) (F : Contents) (d : Seen) (ins
     pub window_refused : Ended k b fault.Memory
     window_refused = ended_unwritten laws k w first F d ins shelves left g.reached b t.uses p g.files t.uses.counts
 
-    but_b : IsTrue k.seen.told → WholesBut p k.settings b k.journal k.outs g.reached.entry_list
+    but_b : IsTrue k.seen.told → WholesButOn p k.settings k.origin b k.journal k.outs g.reached.entry_list
     but_b told = but_on laws k w first F d ins shelves left g.reached b t.uses p g.files told
 
     pub files_b : AreFiles b k.journal k.outs

@@ -11,8 +11,8 @@ use Rattle.fab_policy.specs.Journal.{Journal, followed}
 use Rattle.fab_policy.specs.Legal.{HoldsFrames, IsLeastOf, numbered_from, of_port, window_start, windows_left}
 use Rattle.fab_policy.specs.declared.event.Event.{Event}
 use Rattle.pcap_file.specs.declared.Record.{Record}
+use Rattle.fab_policy.proofs.GrowLemmas.{length-numbered, numbered-append}
 use Rattle.fab_windows.specs.Window.{HoldBatches}
-use Rattle.fab_shared.proofs.FrameLemmas.{numbered-append}
 
 -- ---- records of a window, behind earlier ones
 
@@ -65,15 +65,11 @@ holds_more p (records ∷ taken) (batch ∷ batches) J K frames e both held own 
 
 -- ---- the windows that are left
 
-abbrev windows_in : Settings → List (List Record) → List ℕ
+abbrev pub windows_in : Settings → List (List Record) → List ℕ
 windows_in c [] = []
 windows_in c (batch ∷ batches) = map (λ (r : Record). window_start c r.moment) batch ++ windows_in c batches
 
-length-numbered : (n : ℕ) (records : List Record) → length (numbered_from n records) ≡ length records
-length-numbered n [] = refl
-length-numbered n (r ∷ records) = let h = length-numbered (n + 1) records in omega arith
-
-drop_front : (records batch : List Record) → drop (length records) (records ++ batch) ≡ batch
+pub drop_front : (records batch : List Record) → drop (length records) (records ++ batch) ≡ batch
 drop_front [] batch = refl
 drop_front (r ∷ records) batch = drop_front records batch
 
@@ -99,12 +95,12 @@ all_of : (c : Settings) (w : ℕ) (batch : List Record) → AreIn c w batch → 
 all_of c w [] own = refl
 all_of c w (r ∷ batch) own = both_true (le-leb w (window_start c r.moment) (let e = own.0 in omega arith)) (all_of c w batch own.1)
 
-all_in : (c : Settings) (w : ℕ) (batches : List (List Record)) → AllIn c w batches → list_all (λ m. leb w m) (windows_in c batches) ≡ true
+pub all_in : (c : Settings) (w : ℕ) (batches : List (List Record)) → AllIn c w batches → list_all (λ m. leb w m) (windows_in c batches) ≡ true
 all_in c w [] own = refl
 all_in c w (batch ∷ batches) own =
     list_all-append (λ m. leb w m) (map (λ (r : Record). window_start c r.moment) batch) (windows_in c batches) ∙ both_true (all_of c w batch own.0) (all_in c w batches own.1)
 
-any_in : (c : Settings) (w : ℕ) (batches : List (List Record)) (q : ℕ) (r : Record) (records : List Record) → AllIn c w batches → slice_get batches q ≡ Some (r ∷ records) → list_any (λ m. eqb m w) (windows_in c batches) ≡ true
+pub any_in : (c : Settings) (w : ℕ) (batches : List (List Record)) (q : ℕ) (r : Record) (records : List Record) → AllIn c w batches → slice_get batches q ≡ Some (r ∷ records) → list_any (λ m. eqb m w) (windows_in c batches) ≡ true
 any_in c w [] q r records own at = absurd (cc)
 any_in c w (batch ∷ batches) zero r records own at =
     let is : batch ≡ r ∷ records = cc in

@@ -11,9 +11,9 @@ use Rattle.fab_policy.specs.Ranged.{IsRanged}
 use Rattle.fab_policy.specs.Standing.{AreFrames}
 use Rattle.fab_policy.specs.declared.event.Event.{Event}
 use Rattle.fab_policy.specs.declared.event.Event.TheVariants.{Tick, Frame}
-use Rattle.fab_onward.specs.Onward.{AreHeld, AreTicks, CanCome, CanComeAll, FramesExist, TicksExist}
-use Rattle.fab_shared.proofs.FollowedLemmas.{of_port-followed, ports-followed, frames-append}
-use Rattle.fab_shared.proofs.FrameLemmas.{numbered-append}
+use Rattle.fab_windows.specs.Onward.{AreHeld, AreTicks, CanCome, CanComeAll, FramesExist, TicksExist}
+use Rattle.fab_policy.proofs.FollowedLemmas.{of_port-followed, ports-followed, frames-append}
+use Rattle.fab_policy.proofs.GrowLemmas.{numbered-append}
 use Rattle.fab_windows.specs.Files.{GoesOn}
 use Rattle.fab_windows.specs.Parts.{AreTicksOn, HoldFirsts, IsPart, IsNext}
 use Rattle.fab_windows.specs.Run.{IsRunOver}

@@ -9,10 +9,10 @@ use Rattle.fab_config.specs.Settings.{Settings}
 use Rattle.fab_policy.specs.Growing.{records_to}
 use Rattle.fab_policy.specs.Journal.{Journal}
 use Rattle.fab_policy.specs.Outputs.{Sent}
-use Rattle.fab_policy.specs.Text.{text}
 use Rattle.run_files.specs.declared.fault.RunFault.TheVariants as fault
 use Rattle.fab_base.specs.Slots.{name_of}
-use Rattle.fab_windows.specs.Files.{Written, Pending, Hold, HoldBut, InOrder, HoldFronts, Wholes, WholesBut, Fronts, Writes, captures, file_bytes, file_slots}
+use Rattle.fab_windows.specs.Files.{Written, Pending, Hold, HoldBut, InOrder, HoldFronts, Writes, file_bytes, file_slots}
+use Rattle.fab_windows.specs.From.{FrontsOn, Origin, WholesButOn, WholesOn, captures_on, journal_on}
 use Rattle.run_files.specs.Pages.{piece_at}
 use Rattle.run_files.proofs.PageLemmas.{short, short_empty, short_pages, short_nothings}
 use Rattle.fab_windows.specs.Pages.{AreShort, IsNothing, are_full, pending}
@@ -49,20 +49,20 @@ module _ (p : Pending) (a b : Seen) (journal : ℕ) (outs w : List ℕ) (v : ℕ
   pub flushed_front : {x : Result (Unit {0}) Failed} → Writes journal outs p.lines p.pieces a b x → HoldFronts b journal outs (file_bytes w v) (file_bytes l r)
   flushed_front x = x.front told w l v r h.hold h.lines_ h.records
 
--- the same of the files of a journal
-module _ (p : Pending) (c : Settings) (d : Seen) (journal : ℕ) (outs : List ℕ) (J : Journal) where
-  pub wholes_but_nothing : IsNothing p → Wholes c d journal outs J → WholesBut p c d journal outs J
-  wholes_but_nothing none h = record { before = J; begins = ([], refl); hold = hold_all p d journal outs (text J) (captures c (length outs) J) none h }
+-- the same of the files of a run
+module _ (p : Pending) (c : Settings) (o : Origin) (d : Seen) (journal : ℕ) (outs : List ℕ) (J : Journal) where
+  pub wholes_but_nothing : IsNothing p → WholesOn c o d journal outs J → WholesButOn p c o d journal outs J
+  wholes_but_nothing none h = record { before = J; begins = ([], refl); hold = hold_all p d journal outs (journal_on o J) (captures_on c o (length outs) J) none h }
 
-  pub wholes_but_front : WholesBut p c d journal outs J → Fronts c d journal outs J
-  wholes_but_front h = record { before = Some h.before; begins = h.begins; hold = but_is_front p d journal outs (text h.before) (captures c (length outs) h.before) (text J) (captures c (length outs) J) h.hold }
+  pub wholes_but_front : WholesButOn p c o d journal outs J → FrontsOn c o d journal outs J
+  wholes_but_front h = record { before = Some h.before; begins = h.begins; hold = but_is_front p d journal outs (journal_on o h.before) (captures_on c o (length outs) h.before) (journal_on o J) (captures_on c o (length outs) J) h.hold }
 
-module _ (p : Pending) (c : Settings) (a b : Seen) (journal : ℕ) (outs : List ℕ) (J : Journal) (told : IsTrue a.told) (h : WholesBut p c a journal outs J) where
-  pub flushed_whole : Writes journal outs p.lines p.pieces a b (Ok tt) → Wholes c b journal outs J
-  flushed_whole x = flushed p a b journal outs (text h.before) (captures c (length outs) h.before) (text J) (captures c (length outs) J) told h.hold x
+module _ (p : Pending) (c : Settings) (o : Origin) (a b : Seen) (journal : ℕ) (outs : List ℕ) (J : Journal) (told : IsTrue a.told) (h : WholesButOn p c o a journal outs J) where
+  pub flushed_whole : Writes journal outs p.lines p.pieces a b (Ok tt) → WholesOn c o b journal outs J
+  flushed_whole x = flushed p a b journal outs (journal_on o h.before) (captures_on c o (length outs) h.before) (journal_on o J) (captures_on c o (length outs) J) told h.hold x
 
-  pub flushed_part : {x : Result (Unit {0}) Failed} → Writes journal outs p.lines p.pieces a b x → Fronts c b journal outs J
-  flushed_part x = record { before = Some h.before; begins = h.begins; hold = flushed_front p a b journal outs (text h.before) (captures c (length outs) h.before) (text J) (captures c (length outs) J) told h.hold x }
+  pub flushed_part : {x : Result (Unit {0}) Failed} → Writes journal outs p.lines p.pieces a b x → FrontsOn c o b journal outs J
+  flushed_part x = record { before = Some h.before; begins = h.begins; hold = flushed_front p a b journal outs (journal_on o h.before) (captures_on c o (length outs) h.before) (journal_on o J) (captures_on c o (length outs) J) told h.hold x }
 
 -- ---- what a window adds
 

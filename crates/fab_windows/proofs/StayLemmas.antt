@@ -4,12 +4,12 @@ use Rattle.fab_base.specs.Ending.{End, Uses}
 use Rattle.fab_base.specs.Seen.{Seen, Touches, Nothing}
 use Rattle.fab_config.specs.Settings.{Settings}
 use Rattle.fab_policy.specs.Journal.{Journal}
-use Rattle.fab_policy.specs.Text.{text}
 use Rattle.fab_gather.specs.declared.shelf.Input.{Input}
 use Rattle.fab_base.specs.Slots.{slot_at, name_of, NameIn}
 use Rattle.fab_gather.specs.Ports.{slots_of, AreInputs}
 use Rattle.fab_gather.proofs.StayLemmas.{LeftStays, left_stays}
-use Rattle.fab_windows.specs.Files.{AreFiles, Written, Pending, Hold, WholesBut, captures}
+use Rattle.fab_windows.specs.Files.{AreFiles, Written, Pending, Hold}
+use Rattle.fab_windows.specs.From.{Origin, WholesButOn, captures_on, journal_on}
 use Rattle.run_files.proofs.OutputLemmas.{same_name, stays_named}
 use Rattle.fab_windows.proofs.UsesLemmas.{writing_touches}
 
@@ -31,12 +31,12 @@ module _ (counted : List ℕ → Type 0) (a b : Seen) (k : Touches Nothing count
     records = λ q lt. file_same (name_of a outs q) (name_of b outs q) (Some (r q)) (same_name Nothing counted a b k outs f.outs_ q lt) (h.records q lt);
   }
 
-  pub but_stays : (p : Pending) (c : Settings) (J : Journal) → WholesBut p c a journal outs J → WholesBut p c b journal outs J
-  but_stays p c J h = record {
+  pub but_stays : (p : Pending) (c : Settings) (o : Origin) (J : Journal) → WholesButOn p c o a journal outs J → WholesButOn p c o b journal outs J
+  but_stays p c o J h = record {
     before = h.before;
     begins = h.begins;
     hold = record {
-      hold = hold_stays (text h.before) (captures c (length outs) h.before) h.hold.hold;
+      hold = hold_stays (journal_on o h.before) (captures_on c o (length outs) h.before) h.hold.hold;
       lines_ = h.hold.lines_;
       records = h.hold.records;
     };

@@ -14,11 +14,11 @@ use Rattle.fab_policy.specs.declared.event.Event.{Event}
 use Rattle.fab_policy.specs.declared.event.Event.TheVariants.{Tick, Frame}
 use Rattle.pcap_file.specs.declared.Record.{Record}
 use Rattle.fab_windows.specs.Window.{AreTicksTo, HoldBatches}
-use Rattle.fab_shared.proofs.FollowedLemmas.{of_port-followed, ports-first}
+use Rattle.fab_policy.proofs.FollowedLemmas.{of_port-followed, ports-first}
 
 -- ---- ticks
 
-left_tick : (c : Settings) (m : ℕ) (ended : List ℕ) (p : ℕ) (ins : List (List Record)) (J : Journal) → windows_left c p ins (Tick m ended ∷ J) ≡ windows_left c p ins J
+pub left_tick : (c : Settings) (m : ℕ) (ended : List ℕ) (p : ℕ) (ins : List (List Record)) (J : Journal) → windows_left c p ins (Tick m ended ∷ J) ≡ windows_left c p ins J
 left_tick c m ended p [] J = refl
 left_tick c m ended p (records ∷ ins) J = ap (λ l. map (λ (r : Record). window_start c r.moment) (left_of p records J) ++ l) (left_tick c m ended (p + 1) ins J)
 
@@ -61,11 +61,11 @@ abbrev pub AllAbove : ℕ → List (ℕ × Caught) → Type 0
 AllAbove n [] = Unit {0}
 AllAbove n (x ∷ l) = (n ≤ x.0) × AllAbove n l
 
-above_numbered : (n k : ℕ) (records : List Record) → n ≤ k → AllAbove n (numbered_from k records)
+pub above_numbered : (n k : ℕ) (records : List Record) → n ≤ k → AllAbove n (numbered_from k records)
 above_numbered n k [] le = tt
 above_numbered n k (r ∷ records) le = (le, above_numbered n (k + 1) records (omega arith))
 
-above_each : (n : ℕ) (l m : List (ℕ × Caught)) → AllAbove n (l ++ m) → AllAbove n l × AllAbove n m
+pub above_each : (n : ℕ) (l m : List (ℕ × Caught)) → AllAbove n (l ++ m) → AllAbove n l × AllAbove n m
 above_each n [] m h = (tt, h)
 above_each n (x ∷ l) m h = let more = above_each n l m h.1 in ((h.0, more.0), more.1)
 
@@ -95,7 +95,7 @@ slice_behind c w [] batch i le own = slice_in c w batch i own
 slice_behind c w (r ∷ records) batch zero le own = absurd (omega arith)
 slice_behind c w (r ∷ records) batch (suc i) le own = slice_behind c w records batch i (omega arith) own
 
-record_behind : (c : Settings) (w q i : ℕ) (taken batches : List (List Record)) → length batches ≡ length taken → AllIn c w batches → ((records : List Record) → slice_get taken q ≡ Some records → length records ≤ i)
+pub record_behind : (c : Settings) (w q i : ℕ) (taken batches : List (List Record)) → length batches ≡ length taken → AllIn c w batches → ((records : List Record) → slice_get taken q ≡ Some records → length records ≤ i)
     → IfSome (option_and_then (λ (records : List Record). slice_get records i) (slice_get (with_more taken batches) q)) (λ r. window_start c r.moment ≡ w)
 record_behind c w q i [] batches e own behind = tt
 record_behind c w q i (records ∷ taken) [] e own behind = absurd (omega arith)

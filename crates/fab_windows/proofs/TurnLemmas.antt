@@ -23,8 +23,9 @@ use Rattle.fab_base.proofs.EndingLemmas.{none_then}
 use Rattle.fab_base.specs.Slots.{NameIn}
 use Rattle.fab_gather.specs.Ports.{slots_of, AreInputs, stop_from, walk_at}
 use Rattle.fab_windows.specs.declared.Done.{Done}
-use Rattle.fab_windows.specs.Files.{AreFiles, Written, Pending, Wholes, WholesBut, Fronts, Writes}
-use Rattle.fab_windows.specs.Run.{Interrupted, Stopped, Ends, SparesFaults}
+use Rattle.fab_windows.specs.Files.{AreFiles, Written, Pending, Writes}
+use Rattle.fab_windows.specs.From.{EndsOn, FrontsOn, InterruptedOn, StoppedOn, WholesButOn, WholesOn}
+use Rattle.fab_windows.specs.Run.{SparesFaults}
 use Rattle.fab_windows.specs.Turns.{Laws, Task, captures_in, start_of, Touched, Reached, Ended}
 use Rattle.fab_gather.specs.Gather.{Gathers}
 use Rattle.fab_gather.proofs.SlotLemmas.{inputs_stay, name_in}
@@ -49,9 +50,9 @@ error_is : (r : Result Done RunFault) (x y : RunFault) → r ≡ Err x → r ≡
 error_is r x y h k = cc
 
 pub ended : (k : Task) (d : Seen) (e : RunFault) → Touches (Written k.seen k.journal k.outs) (Touched k) k.seen d →
-    (IsTrue k.seen.told → IsSaid (run_end e) → Stopped k.settings k.budget (captures_in k) d k.journal k.outs e) →
-    (IsTrue k.seen.told → e ≡ fault.Read → Interrupted k.settings k.budget (captures_in k) (Wholes k.settings d k.journal k.outs)) →
-    (IsTrue k.seen.told → (e ≡ fault.Write) ⊎ (e ≡ fault.Memory) → Interrupted k.settings k.budget (captures_in k) (Fronts k.settings d k.journal k.outs)) →
+    (IsTrue k.seen.told → IsSaid (run_end e) → StoppedOn k.settings k.origin k.budget (captures_in k) d k.journal k.outs e) →
+    (IsTrue k.seen.told → e ≡ fault.Read → InterruptedOn k.settings k.origin k.budget (captures_in k) (WholesOn k.settings k.origin d k.journal k.outs)) →
+    (IsTrue k.seen.told → (e ≡ fault.Write) ⊎ (e ≡ fault.Memory) → InterruptedOn k.settings k.origin k.budget (captures_in k) (FrontsOn k.settings k.origin d k.journal k.outs)) →
     Causes k d e → Ended k d e
 ended k d e touches stop read front causes = record {
   touches = touches;
@@ -61,10 +62,10 @@ ended k d e touches stop read front causes = record {
   counts = causes.2;
 }
   where
-    by_fault : (f : RunFault) → (IsSaid (run_end f) → Stopped k.settings k.budget (captures_in k) d k.journal k.outs f) →
-        (f ≡ fault.Read → Interrupted k.settings k.budget (captures_in k) (Wholes k.settings d k.journal k.outs)) →
-        ((f ≡ fault.Write) ⊎ (f ≡ fault.Memory) → Interrupted k.settings k.budget (captures_in k) (Fronts k.settings d k.journal k.outs)) →
-        Ends k.settings k.budget (captures_in k) d k.journal k.outs (Err f)
+    by_fault : (f : RunFault) → (IsSaid (run_end f) → StoppedOn k.settings k.origin k.budget (captures_in k) d k.journal k.outs f) →
+        (f ≡ fault.Read → InterruptedOn k.settings k.origin k.budget (captures_in k) (WholesOn k.settings k.origin d k.journal k.outs)) →
+        ((f ≡ fault.Write) ⊎ (f ≡ fault.Memory) → InterruptedOn k.settings k.origin k.budget (captures_in k) (FrontsOn k.settings k.origin d k.journal k.outs)) →
+        EndsOn k.settings k.origin k.budget (captures_in k) d k.journal k.outs (Err f)
     by_fault (fault.Capture port at why) s r f = s tt
     by_fault (fault.Limit kind) s r f = s tt
     by_fault fault.Read s r f = r refl
@@ -137,15 +138,15 @@ module _ (laws : Laws) (k : Task) (w first : ℕ) (F : Contents) (d : Seen) (ins
   splits_here = walked_splits k.settings (start_of k) w first r.taken (walk_at d ins shelves left) r.walked
 
   -- by a fault or want of memory, where the files are told this of the journal
-  pub interrupted_here : IsTrue k.seen.told → (Files : Journal → Type 0) → Files r.entry_list → Interrupted k.settings k.budget (captures_in k) Files
+  pub interrupted_here : IsTrue k.seen.told → (Files : Journal → Type 0) → Files r.entry_list → InterruptedOn k.settings k.origin k.budget (captures_in k) Files
   interrupted_here told Files files =
-      interrupted k.settings k.budget (captures_in k) w r.taken r.entry_list r.sofar.run (splits_here told) laws.keeps_before Files
+      interrupted k.settings k.origin k.budget (captures_in k) w r.taken r.entry_list (record { ranged = r.sofar.ranged; run = r.sofar.run }) (splits_here told) laws.keeps_before Files
       (walked_ahead k.settings (start_of k) w first r.taken (walk_at d ins shelves left) r.walked laws.looks_ahead told) files
 
   -- at a look of the next window
-  pub stopped_here : IsTrue k.seen.told → (b : Seen) (s : Stop) → stop_from k.settings first d ins shelves left ≡ Some s → s.window ≡ Some w → Wholes k.settings b k.journal k.outs r.entry_list → Stopped k.settings k.budget (captures_in k) b k.journal k.outs (fault_from (ending s))
+  pub stopped_here : IsTrue k.seen.told → (b : Seen) (s : Stop) → stop_from k.settings first d ins shelves left ≡ Some s → s.window ≡ Some w → WholesOn k.settings k.origin b k.journal k.outs r.entry_list → StoppedOn k.settings k.origin k.budget (captures_in k) b k.journal k.outs (fault_from (ending s))
   stopped_here told b s is own files =
-      stopped k.settings k.budget (captures_in k) w r.taken r.entry_list r.sofar.run (splits_here told) laws.keeps_just b k.journal k.outs s (r.walked.stops told ∙ is) own files
+      stopped k.settings k.origin k.budget (captures_in k) w r.taken r.entry_list (record { ranged = r.sofar.ranged; run = r.sofar.run }) (splits_here told) laws.keeps_just b k.journal k.outs s (r.walked.stops told ∙ is) own files
 
   -- ---- reading touches nothing else
 
@@ -165,12 +166,12 @@ module _ (laws : Laws) (k : Task) (w first : ℕ) (F : Contents) (d : Seen) (ins
     rose_on : RoseIn (NameIn d (slots_of ins)) d.read_faults b.read_faults → RoseIn (NameIn k.seen (slots_of k.ins)) k.seen.read_faults b.read_faults
     rose_on rose = (rose.0, name_now rose.0 rose.1, rose_later _ _ _ (r.touches.reads_rise rose.0) rose.2)
 
-    module _ (p : Pending) (files : IsTrue k.seen.told → WholesBut p k.settings d k.journal k.outs r.entry_list) where
-      pub but_on : IsTrue k.seen.told → WholesBut p k.settings b k.journal k.outs r.entry_list
-      but_on told = but_stays (NameIn d (slots_of ins)) d b touch k.journal k.outs files_now p k.settings r.entry_list (files told)
+    module _ (p : Pending) (files : IsTrue k.seen.told → WholesButOn p k.settings k.origin d k.journal k.outs r.entry_list) where
+      pub but_on : IsTrue k.seen.told → WholesButOn p k.settings k.origin b k.journal k.outs r.entry_list
+      but_on told = but_stays (NameIn d (slots_of ins)) d b touch k.journal k.outs files_now p k.settings k.origin r.entry_list (files told)
 
-      front_on : IsTrue k.seen.told → Interrupted k.settings k.budget (captures_in k) (Fronts k.settings b k.journal k.outs)
-      front_on told = interrupted_here told (Fronts k.settings b k.journal k.outs) (wholes_but_front p k.settings b k.journal k.outs r.entry_list (but_on told))
+      front_on : IsTrue k.seen.told → InterruptedOn k.settings k.origin k.budget (captures_in k) (FrontsOn k.settings k.origin b k.journal k.outs)
+      front_on told = interrupted_here told (FrontsOn k.settings k.origin b k.journal k.outs) (wholes_but_front p k.settings k.origin b k.journal k.outs r.entry_list (but_on told))
 
       -- refused memory, before anything of the window is written
       pub ended_unwritten : NoFaults d b → Ended k b fault.Memory
@@ -182,11 +183,11 @@ module _ (laws : Laws) (k : Task) (w first : ℕ) (F : Contents) (d : Seen) (ins
         then_touches : {last : End} → Uses Nothing (Written b k.journal k.outs) last b z → Touches Ours (Touched k) k.seen z
         then_touches u = touches_trans Ours (Touched k) k.seen b z read_touches (touches_wider (Written b k.journal k.outs) (Written b k.journal k.outs) Ours (Touched k) b z written_then (λ m h. inl (written_then m h)) (writing_touches (Written b k.journal k.outs) b z u))
 
-        wholes_then : Writes k.journal k.outs p.lines p.pieces b z (Ok tt) → IsTrue k.seen.told → Wholes k.settings z k.journal k.outs r.entry_list
-        wholes_then x told = flushed_whole p k.settings b z k.journal k.outs r.entry_list (told_then told) (but_on told) x
+        wholes_then : Writes k.journal k.outs p.lines p.pieces b z (Ok tt) → IsTrue k.seen.told → WholesOn k.settings k.origin z k.journal k.outs r.entry_list
+        wholes_then x told = flushed_whole p k.settings k.origin b z k.journal k.outs r.entry_list (told_then told) (but_on told) x
 
-        fronts_then : {x : Result (Unit {0}) Failed} → Writes k.journal k.outs p.lines p.pieces b z x → IsTrue k.seen.told → Interrupted k.settings k.budget (captures_in k) (Fronts k.settings z k.journal k.outs)
-        fronts_then x told = interrupted_here told (Fronts k.settings z k.journal k.outs) (flushed_part p k.settings b z k.journal k.outs r.entry_list (told_then told) (but_on told) x)
+        fronts_then : {x : Result (Unit {0}) Failed} → Writes k.journal k.outs p.lines p.pieces b z x → IsTrue k.seen.told → InterruptedOn k.settings k.origin k.budget (captures_in k) (FrontsOn k.settings k.origin z k.journal k.outs)
+        fronts_then x told = interrupted_here told (FrontsOn k.settings k.origin z k.journal k.outs) (flushed_part p k.settings k.origin b z k.journal k.outs r.entry_list (told_then told) (but_on told) x)
 
         -- which fails
         pub ended_closing : (f : Failed) → Writes k.journal k.outs p.lines p.pieces b z (Err f) → Ended k z fault.Write
@@ -195,14 +196,14 @@ module _ (laws : Laws) (k : Task) (w first : ℕ) (F : Contents) (d : Seen) (ins
             (λ y. absurd (cc), λ y. let rose = x.uses.counts.0 in (rose.0, written_then rose.0 rose.1, rose_later _ _ _ (read_touches.writes_rise rose.0) rose.2), tt)
 
   -- a fault while the window is gathered, behind which all is written that was still to be
-  pub ended_gathering : (p : Pending) → (IsTrue k.seen.told → WholesBut p k.settings d k.journal k.outs r.entry_list) → (b : Seen) (ins' : List Input) (shelves' : List Shelf) (left' : Budget) (e : GatherFault) →
+  pub ended_gathering : (p : Pending) → (IsTrue k.seen.told → WholesButOn p k.settings k.origin d k.journal k.outs r.entry_list) → (b : Seen) (ins' : List Input) (shelves' : List Shelf) (left' : Budget) (e : GatherFault) →
       Gathers k.settings first w (walk_at d ins shelves left) (walk_at b ins' shelves' left') (Err e) → (z : Seen) → Writes k.journal k.outs p.lines p.pieces b z (Ok tt) → Ended k z (fault_from e)
   ended_gathering p files b ins' shelves' left' e t z x =
       ended k z (fault_from e) (then_touches b t.uses p files z x.uses)
       (λ told stops.
       let s = t.stops (told_on told) (stopped_from e stops) in
-      subst (λ f. Stopped k.settings k.budget (captures_in k) z k.journal k.outs (fault_from f)) s.2 (stopped_here told z s.0 s.1 s.3 (wholes_then b t.uses p files z x told)))
-      (λ told y. interrupted_here told (Wholes k.settings z k.journal k.outs) (wholes_then b t.uses p files z x told))
+      subst (λ f. StoppedOn k.settings k.origin k.budget (captures_in k) z k.journal k.outs (fault_from f)) s.2 (stopped_here told z s.0 s.1 s.3 (wholes_then b t.uses p files z x told)))
+      (λ told y. interrupted_here told (WholesOn k.settings k.origin z k.journal k.outs) (wholes_then b t.uses p files z x told))
       (λ told y. fronts_then b t.uses p files z x told) (
         λ y. let rose = rose_on b t.uses (uses_rose (NameIn d (slots_of ins)) d b t.uses (ap gather_end (read_from e y))) in (rose.0, rose.1, rose_longer _ _ _ rose.2 (x.uses.touches.reads_rise _)),
         λ y. absurd (no_write_from e y),
@@ -234,10 +235,10 @@ module _ (laws : Laws) (k : Task) (w first : ℕ) (F : Contents) (d : Seen) (ins
     }
 
   -- a window that can't be written: beginnings of its journal
-  pub ended_writing : (z : Seen) (e : RunFault) → Uses Nothing (Written d k.journal k.outs) (run_end e) d z → IsUnwritten (run_end e) → (IsTrue k.seen.told → Fronts k.settings z k.journal k.outs r.entry_list) → Ended k z e
+  pub ended_writing : (z : Seen) (e : RunFault) → Uses Nothing (Written d k.journal k.outs) (run_end e) d z → IsUnwritten (run_end e) → (IsTrue k.seen.told → FrontsOn k.settings k.origin z k.journal k.outs r.entry_list) → Ended k z e
   ended_writing z e u only front =
       ended k z e (write_touches z u) (λ told x. absurd (not_both (run_end e) only x)) (λ told x. absurd (subst IsUnwritten (ap run_end x) only))
-      (λ told x. interrupted_here told (Fronts k.settings z k.journal k.outs) (front told)) (
+      (λ told x. interrupted_here told (FrontsOn k.settings k.origin z k.journal k.outs) (front told)) (
         λ x. absurd (subst IsUnwritten (ap run_end x) only),
         λ x. let rose = (subst (λ f. Uses Nothing (Written d k.journal k.outs) (run_end f) d z) x u).counts.0 in (rose.0, written_now rose.0 rose.1, rose_later _ _ _ (r.touches.writes_rise rose.0) rose.2),
         writing_spares (Written d k.journal k.outs) (run_end e) k.seen d z r.faults u,

@@ -8,7 +8,7 @@ use Rattle.fab_policy.specs.Journal.{Journal, followed}
 use Rattle.fab_policy.specs.Legal.{Legal, Timed, Run, HasPorts, HoldsFrames, of_port}
 use Rattle.fab_policy.specs.Standing.{AreFrames}
 use Rattle.fab_policy.specs.declared.event.Event.{Event}
-use Rattle.fab_shared.proofs.FollowedLemmas.{of_port-followed, ports-followed}
+use Rattle.fab_policy.proofs.FollowedLemmas.{of_port-followed, ports-followed}
 use Rattle.fab_windows.specs.Run.{IsRunOver}
 use Rattle.fab_windows.specs.Window.{AreTicksTo, HoldBatches}
 use Rattle.fab_windows.proofs.LeftLemmas.{all_below_to, all_from_window, length-with_more, holds_more, least_left}

@@ -1,7 +1,9 @@
 pub mod Files
 pub mod Pages
 pub mod Run
+pub mod From
 pub mod Steps
 pub mod Turns
 pub mod Window
+pub mod Onward
 pub mod Parts

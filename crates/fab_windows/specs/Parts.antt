@@ -10,7 +10,7 @@ use Rattle.fab_policy.specs.declared.event.Event.{Event}
 use Rattle.fab_policy.specs.declared.event.Event.TheVariants.{Tick, Frame}
 use Rattle.pcap_file.specs.declared.Record.{Record}
 use Rattle.fab_gather.specs.Laws.{AllIn, HasSome}
-use Rattle.fab_onward.specs.Onward.{CanComeAll}
+use Rattle.fab_windows.specs.Onward.{CanComeAll}
 use Rattle.fab_windows.specs.Files.{GoesOn}
 use Rattle.fab_windows.specs.Run.{IsRunOver}
 

@@ -6,15 +6,17 @@ use Rattle.fab_base.specs.declared.values.Failed.{Failed}
 use Rattle.fab_config.specs.Settings.{Settings}
 use Rattle.pcap_file.specs.declared.Budget.{Budget}
 use Rattle.pcap_file.specs.declared.Record.{Record}
-use Rattle.fab_policy.specs.Growing.{records_to, FollowedByParts, SentByParts, TextGrows, EgressGrows, NothingIsWritten, NothingIsRun}
+use Rattle.fab_policy.specs.Growing.{records_to, FollowedByParts, NothingIsRun}
 use Rattle.fab_gather.specs.Keeping.{KeepsBefore, KeepsJust}
 use Rattle.fab_policy.specs.Journal.{Journal, frame_count}
 use Rattle.fab_gather.specs.Looks.{Opened}
 use Rattle.fab_policy.specs.Outputs.{Sent}
 use Rattle.fab_policy.specs.Standing.{Contents, drained}
 use Rattle.fab_policy.specs.declared.event.Event.{Event}
-use Rattle.fab_messages.specs.Message.{sent_of}
-use Rattle.fab_messages.specs.declared.message.Out.{Out}
+use Rattle.fab_states.specs.Laws.{RecordsGrowFrom, TextGrowsFrom}
+use Rattle.fab_states.specs.Runs.{none_of}
+use Rattle.fab_sending.specs.Message.{sent_of}
+use Rattle.fab_sending.specs.declared.message.Out.{Out}
 use Rattle.forward_core.specs.Fabric.{AreRanged}
 use Rattle.fab_gather.specs.declared.shelf.Input.{Input}
 use Rattle.fab_gather.specs.declared.shelf.Shelf.{Shelf}
@@ -29,9 +31,10 @@ use Rattle.fab_gather.specs.Ports.{Walk, walk_at, slots_of}
 use Rattle.fab_gather.specs.Reads.{batches_of}
 use Rattle.fab_gather.specs.Walked.{Walked}
 use Rattle.fab_windows.specs.declared.Done.{Done}
-use Rattle.fab_windows.specs.Files.{Written, Writes, FileSlots, file_slots, file_bytes, Pending, HoldBut, HoldFronts, Wholes, WholesBut}
-use Rattle.fab_windows.specs.Run.{AreGiven, Runs}
-use Rattle.fab_windows.specs.Steps.{Sofar, WindowIsRun, FirstsAreTaken}
+use Rattle.fab_windows.specs.Files.{Written, Writes, FileSlots, file_slots, file_bytes, Pending, HoldBut, HoldFronts}
+use Rattle.fab_windows.specs.From.{Origin, RunsOn, WholesButOn, WholesOn}
+use Rattle.fab_windows.specs.Run.{AreGiven}
+use Rattle.fab_windows.specs.Steps.{Sofar, EntriesAreFew, WindowIsRun, WindowsAreEarly, FirstsAreTaken}
 use Rattle.fab_windows.specs.Window.{Ticked, Handled, firsts_of}
 
 -- ---- laws
@@ -40,13 +43,13 @@ use Rattle.fab_windows.specs.Window.{Ticked, Handled, firsts_of}
 pub record Laws : Type 0 where
   -- further entries
   pub followed_by : FollowedByParts
-  pub sent_by : SentByParts
-  pub text_grows : TextGrows
-  pub egress_grows : EgressGrows
-  pub nothing_written : NothingIsWritten
+  pub text_grows : TextGrowsFrom
+  pub records_grow : RecordsGrowFrom
   -- further records
   pub nothing_run : NothingIsRun
   pub windows_run : WindowIsRun
+  pub few : EntriesAreFew
+  pub early : WindowsAreEarly
   pub firsts_taken : FirstsAreTaken
   -- what a stop keeps
   pub keeps_before : KeepsBefore
@@ -66,9 +69,11 @@ pub record Laws : Type 0 where
 
 -- ---- between windows
 
--- What a run is handed: its configuration and its limits, the captures, the depot as it is at the start, and where it writes.
+-- What a run is handed: its configuration, where it goes on from, its limits, the captures, the depot as it is at the start, and where
+-- it writes.
 pub record Task : Type 0 where
   pub settings : Settings
+  pub origin : Origin
   pub budget : Budget
   pub ins : List Input
   pub seen : Seen
@@ -76,8 +81,8 @@ pub record Task : Type 0 where
   pub outs : List ℕ
 
 -- that of a run that starts so
-abbrev pub task_of : Start → Settings → ℕ → List ℕ → Task
-task_of s c journal outs = record { settings = c; budget = s.left; ins = s.ins; seen = s.seen; journal = journal; outs = outs }
+abbrev pub task_of : Start → Origin → Settings → ℕ → List ℕ → Task
+task_of s o c journal outs = record { settings = c; origin = o; budget = s.left; ins = s.ins; seen = s.seen; journal = journal; outs = outs }
 
 -- where its captures stand at the start
 abbrev pub start_of : Task → Start
@@ -91,7 +96,7 @@ captures_in k = opened_in k.seen k.ins
 abbrev pub Touched : Task → List ℕ → Type 0
 Touched k = Either (Written k.seen k.journal k.outs) (NameIn k.seen (slots_of k.ins))
 
--- What stands of a task before a window: which records were taken, how far the captures were read, and a journal that stands for
+-- What stands of a task before a window: which records were taken, how far the captures were read, and the entries that are a run over
 -- these records.
 pub record Reached (k : Task) (w first : ℕ) (F : Contents) (walk : Walk) : Type 0 where
   pub given : AreGiven k.seen k.ins k.journal k.outs
@@ -103,13 +108,13 @@ pub record Reached (k : Task) (w first : ℕ) (F : Contents) (walk : Walk) : Typ
   pub taken : List (List Record)
   pub walked : Walked k.settings (start_of k) w first taken walk
   pub entry_list : Journal
-  pub sofar : Sofar k.settings (length k.ins) w taken entry_list F
+  pub sofar : Sofar k.settings k.origin.state (none_of taken) (length k.ins) w taken entry_list F
   pub clock : IfSome F.state.tables.clock (λ t. t < w)
 
--- The files hold that journal but for what is still to be written, and its frames and entries are counted.
+-- The files hold these entries but for what is still to be written, and its frames and entries are counted.
 pub record Going (k : Task) (w first : ℕ) (F : Contents) (walk : Walk) (done : Done) (p : Pending) : Type 0 where
   pub reached : Reached k w first F walk
-  pub files : IsTrue k.seen.told → WholesBut p k.settings walk.seen k.journal k.outs reached.entry_list
+  pub files : IsTrue k.seen.told → WholesButOn p k.settings k.origin walk.seen k.journal k.outs reached.entry_list
   pub frames : done.frames ≡ frame_count reached.entry_list
   pub entries : done.entries ≡ length reached.entry_list
 
@@ -122,11 +127,11 @@ pub record Begun (k : Task) (walk : Walk) : Type 0 where
   pub touches : Touches (Written k.seen k.journal k.outs) (Touched k) k.seen walk.seen
   pub faults : NoFaults k.seen walk.seen
   pub walked : (o : Option ℕ) → IsNextWindow k.settings walk.shelves o → Walked k.settings (start_of k) 0 (unwrap_or o 0) (map (λ i. []) k.ins) walk
-  pub whole : IsTrue k.seen.told → Wholes k.settings walk.seen k.journal k.outs []
+  pub whole : IsTrue k.seen.told → WholesOn k.settings k.origin walk.seen k.journal k.outs []
 
 -- the run of a task ended with this fault
 abbrev pub Ended : Task → Seen → RunFault → Type 0
-Ended k d e = Runs k.settings (start_of k) d (file_slots k.journal k.outs) (Err e)
+Ended k d e = RunsOn k.settings k.origin (start_of k) d (file_slots k.journal k.outs) (Err e)
 
 -- Nothing is still to be written, and the numbers are told; or some of it couldn't be.
 abbrev pub Finishes : ℕ → List ℕ → Pending → Done → Seen → Seen → Result Done RunFault → Type 0

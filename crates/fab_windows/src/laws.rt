@@ -3,9 +3,10 @@
 //! The function does nothing: its contract is the laws.
 ghost use Rattle.fab_windows.specs.Turns.{Laws};
 
-use crate::steps::windows_are_runs;
+use crate::steps::{firsts_are_taken, runs_go_on};
 use fab_gather::{looks_to_come, records_are_read, stops_keep_what_is_before, windows_move_on};
-use fab_policy::{entries_add_to_files, entries_come_in_parts, records_come_later};
+use fab_policy::{entries_come_in_parts, records_come_later};
+use fab_states::later_entries_are_written;
 
 /// Further entries, further records, where reading stops, and what was read.
 pub fn laws_of_runs()
@@ -14,9 +15,10 @@ pub fn laws_of_runs()
     // Law: what further entries add to journal and files, what later windows leave as it is, what a
     // stop keeps, and that what was read grows to all of it.
     entries_come_in_parts();
-    entries_add_to_files();
+    later_entries_are_written();
     records_come_later();
-    windows_are_runs();
+    runs_go_on();
+    firsts_are_taken();
     stops_keep_what_is_before();
     looks_to_come();
     windows_move_on();

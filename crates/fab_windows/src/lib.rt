@@ -3,6 +3,7 @@
 
 mod files;
 mod laws;
+mod onward;
 mod pages;
 mod plan;
 mod run;
@@ -12,11 +13,12 @@ mod window;
 pub use fab_gather::{CapWhy, Input, LimitKind};
 pub use files::{Slots, flush};
 pub use laws::laws_of_runs;
+pub use onward::journals_go_on;
 pub use pages::Pages;
 pub use plan::tick_to;
 pub use run::run_windows;
 pub use run_files::RunFault;
-pub use steps::parts_go_on;
+pub use steps::{parts_go_on, runs_go_on};
 
 /// How many frames and entries a run made.
 #[derive(Clone, Copy, Debug, PartialEq, Eq)]

@@ -3,7 +3,6 @@ ghost use Rattle.std.specs.Prelude.{◌≡◌, ◌<◌, ◌≤◌, ◌%◌, ◌^
 ghost use Rattle.fab_windows.specs.Window.{Ticked, TickedPart};
 
 use fab_base::NoMemory;
-use fab_policy::entries_come_in_parts;
 use forward_core::Fabric;
 use std::alloc::Global;
 
@@ -16,8 +15,6 @@ pub fn tick_to(alloc: Global, fabric: &mut Fabric, window: u64) -> Result<(), No
     ensures ticked { OnOk result (Ticked window fabric.old fabric.new) }
     ensures part { OnErr result (TickedPart fabric.old fabric.new) }
 {
-    // Law: entries may come in two parts; the next tick comes behind those before it.
-    entries_come_in_parts();
     'ticks: while let Some(moment) = fabric.next_tick(window) {
         fabric.tick(alloc, moment)?;
     }

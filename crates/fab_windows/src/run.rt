@@ -5,6 +5,7 @@ ghost use Rattle.fab_config.specs.Settings.{Settings};
 ghost use Rattle.fab_gather.specs.First.{start_at};
 ghost use Rattle.fab_gather.specs.Ports.{TakesFrom, walk_at};
 ghost use Rattle.fab_windows.specs.Files.{AreFiles, file_slots};
+ghost use Rattle.fab_windows.specs.From.{nothing_of};
 ghost use Rattle.fab_windows.specs.Pages.{IsNothing, pending};
 ghost use Rattle.fab_windows.specs.Run.{AreGiven, Runs};
 ghost use Rattle.fab_windows.specs.Turns.{task_of, Begun, Ended, Finishes};
@@ -87,8 +88,8 @@ fn begin<D: Depot>(
     requires outputs { length slots.now.outs.now ≡ length ins.old }
     requires given { AreGiven (D.seen depot.old) ins.old slots.now.journal slots.now.outs.now }
     ensures begins { (c : Settings)
-        → let k = task_of (start_at (D.seen depot.old) ins.old budget.old) c slots.now.journal
-        slots.now.outs.now in MatchResult result
+        → let k = task_of (start_at (D.seen depot.old) ins.old budget.old) (nothing_of c) c
+        slots.now.journal slots.now.outs.now in MatchResult result
         (λ r. Begun k (walk_at (D.seen depot.new) ins.new r.shelves.items budget.new))
         (λ e. Ended k (D.seen depot.new) e) }
     ensures pages { IfOk result (λ r. length r.pages.records.items ≡ length slots.now.outs.now) }

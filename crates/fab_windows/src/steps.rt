@@ -2,23 +2,30 @@
 //!
 //! The function does nothing: its contract is the laws.
 ghost use Rattle.fab_windows.specs.Parts.{PartsGoOn};
-ghost use Rattle.fab_windows.specs.Steps.{FirstsAreTaken, WindowIsRun};
+ghost use Rattle.fab_windows.specs.Steps.{RunsGoOn, WindowIsRun, EntriesAreFew, WindowsAreEarly};
+ghost use Rattle.fab_windows.specs.Steps.{NothingIsFirst, FirstsAreTaken};
 
-use fab_onward::journals_go_on;
-use fab_policy::{entries_come_in_parts, fabric_steps, records_come_later};
+use crate::onward::journals_go_on;
+use fab_policy::{entries_come_in_parts, records_come_later};
 
-/// A run over the records of all earlier windows goes on by the ticks and the frames of a window to
-/// a run over its records too; their numbers are those that the shelves have.
-pub(crate) fn windows_are_runs()
-    ensures firsts { FirstsAreTaken }
-    ensures run { WindowIsRun }
+/// A run from a state, whatever led to it, goes on by the ticks up to a window and its frames. What
+/// stands before a window stands after it; from the state before anything happened it represents a
+/// journal. There are few entries, and what a window sends it sends at its start or before.
+pub fn runs_go_on()
+    ensures goes_on { RunsGoOn }
+    ensures window { WindowIsRun }
+    ensures few { EntriesAreFew }
+    ensures early { WindowsAreEarly }
+    ensures nothing { NothingIsFirst }
 {
-    // Law: entries may come in two parts, later records leave the time of earlier ones, and a right
-    // entry leaves a journal legal; so a window's entries make a run longer.
+    // Law: entries may come in two parts: a window's are ticks and then frames.
     entries_come_in_parts();
-    records_come_later();
-    fabric_steps();
 }
+
+/// The numbers of a window's records are those that the shelves have.
+pub(crate) fn firsts_are_taken()
+    ensures { FirstsAreTaken }
+{}
 
 /// A run over the records of all earlier windows and a part of the next window go on to a run over
 /// all records of that window too, whatever was made of it so far.

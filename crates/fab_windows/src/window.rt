@@ -8,6 +8,7 @@ ghost use Rattle.fab_gather.specs.First.{IsNextWindow, Start};
 ghost use Rattle.fab_gather.specs.Ports.{TakesFrom, walk_at};
 ghost use Rattle.fab_pages.specs.Pages.{AreEarly, sents_of};
 ghost use Rattle.fab_windows.specs.Files.{AreFiles, file_slots};
+ghost use Rattle.fab_windows.specs.From.{Origin};
 ghost use Rattle.fab_windows.specs.Pages.{AreShort, pending};
 ghost use Rattle.fab_windows.specs.Turns.{task_of, Going, Gathered, Ended, Handles, Publishes, paged_at};
 ghost use Rattle.std.specs.Prelude.{List};
@@ -60,8 +61,8 @@ pub(crate) fn run_window<R: Threads + Wait + Sync, D: Depot, G: Gate + Sync>(
     budget: &mut Budget,
     slots: &Slots<'_>,
 ) -> Result<Fabric, RunFault>
-    requires going { (s : Start)
-        × Going (task_of s fabric.settings slots.now.journal slots.now.outs.now) window
+    requires going { (s : Start) × (o : Origin)
+        × Going (task_of s o fabric.settings slots.now.journal slots.now.outs.now) window
         run.old.first fabric
         (walk_at (D.seen depot.old) ins.old run.old.shelves.items budget.old) run.old.done
         (pending run.old.pages) }
@@ -69,8 +70,8 @@ pub(crate) fn run_window<R: Threads + Wait + Sync, D: Depot, G: Gate + Sync>(
     requires start { window % fabric.settings.window ≡ 0 }
     requires range { window < 2 ^ 43 }
     requires pages { length run.old.pages.records.items ≡ length slots.now.outs.now }
-    ensures runs { (s : Start)
-        → let k = task_of s fabric.settings slots.now.journal slots.now.outs.now in
+    ensures runs { (s : Start) (o : Origin)
+        → let k = task_of s o fabric.settings slots.now.journal slots.now.outs.now in
         Going k window run.old.first fabric
         (walk_at (D.seen depot.old) ins.old run.old.shelves.items budget.old) run.old.done
         (pending run.old.pages) → MatchResult result
@@ -112,17 +113,17 @@ fn run_gathered<R: Threads + Wait + Sync, D: Depot, G: Gate + Sync>(
     run: &mut Run,
     slots: &Slots<'_>,
 ) -> Result<Fabric, RunFault>
-    requires gathered { (s : Start) × (ins : List of_gather.Input)
+    requires gathered { (s : Start) × (o : Origin) × (ins : List of_gather.Input)
         × (left : of_captures.Budget)
-        × Gathered (task_of s fabric.settings slots.now.journal slots.now.outs.now) window
+        × Gathered (task_of s o fabric.settings slots.now.journal slots.now.outs.now) window
         run.old.first fabric
         (walk_at (D.seen depot.old) ins run.old.shelves.items left) run.old.done
         (pending run.old.pages) }
     requires start { window % fabric.settings.window ≡ 0 }
     requires range { window < 2 ^ 43 }
     requires pages { length run.old.pages.records.items ≡ length slots.now.outs.now }
-    ensures runs { (s : Start) (ins : List of_gather.Input) (left : of_captures.Budget)
-        → let k = task_of s fabric.settings slots.now.journal slots.now.outs.now in
+    ensures runs { (s : Start) (o : Origin) (ins : List of_gather.Input)
+        (left : of_captures.Budget) → let k = task_of s o fabric.settings slots.now.journal slots.now.outs.now in
         Gathered k window run.old.first fabric
         (walk_at (D.seen depot.old) ins run.old.shelves.items left) run.old.done
         (pending run.old.pages) → MatchResult result

@@ -14,12 +14,12 @@ use Rattle.fab_policy.specs.Outputs.{Sent}
 use Rattle.fab_policy.specs.Text.{egress}
 use Rattle.fab_gather.specs.Looks.{all_records}
 use Rattle.fip_snoop.specs.Bridge.{Arrival, arrivals}
-use Rattle.snoop_run.specs.Copies.{capture}
+use Rattle.side_runs.specs.Copies.{capture}
 use Rattle.fip_snoop.specs.Laws.{ENodesAreApart}
 use Rattle.fip_snoop.specs.Messages.{forwarder_of}
 use Rattle.fip_snoop.specs.Ways.{FORWARDER_PORT}
 use Rattle.fip_snoop.specs.declared.forwarder.Forwarder.{Forwarder}
-use Rattle.snoop_run.specs.Laws.{TakenAreCaptures}
+use Rattle.side_runs.specs.Laws.{TakenAreCaptures}
 use Rattle.enode_core.specs.declared.node.Phase.{Phase}
 use Rattle.enode_core.specs.declared.node.Phase.TheVariants.{Up}
 use Rattle.enode_core.specs.declared.node.State.{State}

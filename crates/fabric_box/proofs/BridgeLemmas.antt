@@ -10,7 +10,7 @@ use Rattle.pcap_file.specs.declared.Record.{Record}
 use Rattle.heard_frames.specs.Heard.{What, Bad, Fip, Fcoe, decoded}
 use Rattle.heard_frames.specs.Rows.{first_row, ALL_ENODES}
 use Rattle.fip_snoop.specs.Bridge.{Arrival, arrival, arrivals_from, with_arrival, in_order, arrivals, handled, history, leads_to}
-use Rattle.snoop_run.specs.Copies.{records_to, capture}
+use Rattle.side_runs.specs.Copies.{records_to, capture}
 use Rattle.fip_snoop.specs.History.{Handled, History, Delivery, or_else, latest, shown, shows, home, delivered, delivery, bound_by, if_of, binds, last_binding, since, if_unended, ends, bound, has_moved}
 use Rattle.fip_snoop.specs.Laws.{ENodesAreApart}
 use Rattle.fip_snoop.specs.Messages.{grant_in, granted_mac, is_port_alive}

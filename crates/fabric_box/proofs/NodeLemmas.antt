@@ -7,7 +7,7 @@ use Rattle.pcap_file.specs.declared.fault.GatherFault.{GatherFault}
 use Rattle.pcap_file.specs.declared.fault.LimitKind.TheVariants as limit
 use Rattle.pcap_file.specs.declared.fault.GatherFault.TheVariants as gather
 use Rattle.pcap_file.specs.Captures.{Taken, unless_stopped, capture_by}
-use Rattle.snoop_run.specs.Laws.{TakenAreCaptures}
+use Rattle.side_runs.specs.Laws.{TakenAreCaptures}
 use Rattle.enode_core.specs.declared.node.Kept.{Kept}
 use Rattle.enode_core.specs.declared.node.Phase.{Phase}
 use Rattle.enode_core.specs.declared.node.Phase.TheVariants as phase
@@ -15,7 +15,7 @@ use Rattle.enode_core.specs.declared.node.Stage.{Stage}
 use Rattle.enode_core.specs.declared.node.Stage.TheVariants.{Asking, Looking, Logging, Up}
 use Rattle.enode_core.specs.Phases.{phase_at}
 use Rattle.enode_core.specs.Runs.{is_too_long}
-use Rattle.enode_run.specs.Files.{NodeTask, Played, unless_too_long}
+use Rattle.side_runs.specs.NodeFiles.{NodeTask, Played, unless_too_long}
 use Rattle.fabric_box.proofs.TakenLemmas.{IsTaken, one_within}
 
 -- it stands up with the address that it is said to be up with

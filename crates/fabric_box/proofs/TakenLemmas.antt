@@ -15,7 +15,7 @@ use Rattle.pcap_file.specs.Captures.{Taken, unless_stopped, without_head, withou
 use Rattle.pcap_file.specs.Reading.{Why, NoBytes, NoFrames, limit_of, failure, Step, Gives, Ends, Stops, step_of}
 use Rattle.pcap_file.proofs.lemmas.Chains.{found_stands, end_is}
 use Rattle.pcap_file.proofs.lemmas.Steps.{step_tells}
-use Rattle.snoop_run.specs.Laws.{TakenAreCaptures}
+use Rattle.side_runs.specs.Laws.{TakenAreCaptures}
 use Rattle.fabric_box.specs.Box.{IsAt}
 
 -- what is taken of bytes, and what is left of the budget then

@@ -3,7 +3,7 @@ ghost use Rattle.fabric_box.specs.Box.{JoinedIsGranted, BridgedIsGranted};
 ghost use Rattle.fabric_box.specs.Sent.{RunSends, SnoopSends, EnodeSends};
 
 use fip_snoop::enodes_are_apart;
-use snoop_run::what_is_taken_are_captures;
+use side_runs::what_is_taken_are_captures;
 
 /// Each frame in a capture of `run` is one that its journal sends on the port, each in one of
 /// `snoop` came where its way leads to the port, and each in that of `enode` is one that the node

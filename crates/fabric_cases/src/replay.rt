@@ -1,9 +1,9 @@
 //! The check of a journal: outputs that differ, and rows as they are shown.
+use case_lines::OpenFiles;
 use ct_messages::TypeMap;
 use fab_base::Failed;
 use fab_base::fields::u32_at;
 use fab_replay::{Compared, Row, write_row};
-use open_files::OpenFiles;
 use std::alloc::Global;
 use table_cases::say::{end, end_number};
 use table_cases::words::{CaseFault, address, enode, hex, moment, name, octet, short};

@@ -4,10 +4,10 @@ ghost use Rattle.fab_gather.specs.First.{IsFresh};
 ghost use Rattle.fab_gather.specs.Ports.{AreReady, slots_of};
 
 use crate::settings::settings;
+use case_lines::OpenFiles;
 use fab_base::{Bytes, Moment, NoMemory, PortNo};
 use fab_config::Config;
 use fab_gather::*;
-use open_files::OpenFiles;
 use pcap_file::{Budget, Reader, write_head, write_record};
 use std::alloc::Global;
 use std::test::Fail;

@@ -12,9 +12,9 @@ use Rattle.pcap_file.specs.declared.fault.GatherFault.TheVariants as gather
 use Rattle.enode_core.specs.declared.node.Phase.{Phase}
 use Rattle.enode_core.specs.Phases.{phase_of}
 use Rattle.enode_core.specs.Runs.{Input, IsRun, stands, all_sent}
-use Rattle.enode_run.specs.Course.{capture}
+use Rattle.side_runs.specs.Course.{capture}
 use Rattle.enode_core.proofs.RunLemmas.{runs_are_one}
-use Rattle.enode_run.specs.Files.{IsUntaken, Same, Front, RunsNode, node_task, taken_by}
+use Rattle.side_runs.specs.NodeFiles.{IsUntaken, Same, Front, RunsNode, node_task, taken_by}
 use Rattle.run_files.specs.Faults.{fault_from, run_end}
 use Rattle.run_files.specs.declared.fault.RunFault.{RunFault}
 use Rattle.run_files.specs.declared.fault.RunFault.TheVariants as faults

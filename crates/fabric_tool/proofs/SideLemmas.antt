@@ -7,7 +7,7 @@ use Rattle.std.proofs.lemmas.List.{take_all}
 use Rattle.std.specs.declared.alloc.Global.{Global}
 use Rattle.fab_base.specs.Places.{name_at}
 use Rattle.fab_base.specs.Seen.{Seen}
-use Rattle.snoop_run.specs.Sides.{AreKnown, AreDifferent}
+use Rattle.side_runs.specs.Sides.{AreKnown, AreDifferent}
 use Rattle.fabric_tool.specs.Command.{AllKnown, has_sides, are_names, names_from, is_snoop}
 use Rattle.fabric_tool.proofs.NameLemmas.{and_true, names_differ}
 

@@ -14,12 +14,12 @@ use Rattle.pcap_file.specs.declared.fault.GatherFault.TheVariants as gather
 use Rattle.fip_snoop.specs.Bridge.{Arrival, arrivals, history, passed, dropped}
 use Rattle.fip_snoop.specs.Laws.{DataGoesUp, DataGoesDown, ENodesAreApart}
 use Rattle.fip_snoop.specs.Messages.{forwarder_of}
-use Rattle.snoop_run.specs.Bridged.{HasBridged, HasFronts, HasStop, Ends, Bridges}
-use Rattle.snoop_run.specs.Crossing.{crossing, captures, IsFirstUnread}
-use Rattle.snoop_run.specs.Laws.{AreCaptures}
-use Rattle.snoop_run.specs.Sides.{ins_of, outs_of}
-use Rattle.snoop_run.specs.declared.run.Crossed.{Crossed}
-use Rattle.snoop_run.proofs.RunLemmas.{fronts_since}
+use Rattle.side_runs.specs.Bridged.{HasBridged, HasFronts, HasStop, Ends, Bridges}
+use Rattle.side_runs.specs.Crossing.{crossing, captures, IsFirstUnread}
+use Rattle.side_runs.specs.Laws.{AreCaptures}
+use Rattle.side_runs.specs.Sides.{ins_of, outs_of}
+use Rattle.side_runs.specs.declared.bridge_run.Crossed.{Crossed}
+use Rattle.side_runs.proofs.RunLemmas.{fronts_since}
 use Rattle.fabric_tool.specs.Command.{SnoopNames, Snoop}
 use Rattle.run_files.specs.Faults.{fault_from, run_end}
 use Rattle.run_files.specs.Names.{Among}

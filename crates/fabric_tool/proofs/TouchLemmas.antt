@@ -25,8 +25,8 @@ use Rattle.run_files.specs.Names.{Among}
 use Rattle.run_files.specs.Opening.{AreEmptyOutputs, Opens}
 use Rattle.run_files.specs.declared.fault.RunFault.{RunFault}
 use Rattle.run_files.proofs.NameLemmas.{among_front, among_back}
-use Rattle.snoop_run.specs.Bridged.{Bridges}
-use Rattle.snoop_run.specs.declared.run.Crossed.{Crossed}
+use Rattle.side_runs.specs.Bridged.{Bridges}
+use Rattle.side_runs.specs.declared.bridge_run.Crossed.{Crossed}
 use Rattle.fabric_tool.specs.Checking.{AreOpenInputs, command_of, reads_of}
 use Rattle.fabric_tool.specs.Command.{Command, Run, Snoop, Live, SnoopNames, are_pairs, are_ports, is_live, run_of, live_of, names_of, ins_of, named, form_of, command}
 use Rattle.fabric_tool.specs.Ends.{inputs, outputs, TouchesOwn}

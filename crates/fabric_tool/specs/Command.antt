@@ -10,7 +10,7 @@ use Rattle.fab_base.specs.Seen.{Seen}
 use Rattle.fab_config.specs.Values.{octets_of, name}
 use Rattle.fab_base.specs.Counting.{counting}
 use Rattle.enode_core.specs.declared.node.Identity.{Identity}
-use Rattle.snoop_run.specs.Sides as sides
+use Rattle.side_runs.specs.Sides as sides
 use Rattle.fabric_tool.specs.declared.command.Form.{Form}
 use Rattle.fabric_tool.specs.declared.command.Form.TheVariants as forms
 use Rattle.fabric_tool.specs.declared.command.Width.{Width}

@@ -7,7 +7,7 @@ use Rattle.pcap_file.specs.declared.fault.GatherFault.TheVariants as gather
 use Rattle.enode_core.specs.declared.node.Phase.{Phase}
 use Rattle.enode_core.specs.Phases.{phase_of}
 use Rattle.enode_core.specs.Runs.{Input, IsRun, stands}
-use Rattle.enode_run.specs.Files.{NodeTask, node_task, Played, IsUntaken, IsFront, taken_by}
+use Rattle.side_runs.specs.NodeFiles.{NodeTask, node_task, Played, IsUntaken, IsFront, taken_by}
 use Rattle.fabric_tool.specs.Command.{EnodeNames}
 use Rattle.fabric_tool.specs.Ending.{Ending, Never, Untouched, Leaves, Unread, Unwritten}
 use Rattle.fabric_tool.specs.Inputs.{LIMITS}

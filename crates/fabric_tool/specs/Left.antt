@@ -24,7 +24,7 @@ use Rattle.fab_windows.specs.Files.{GoesOn, InOrder, captures, text_so_far, capt
 use Rattle.fab_windows.specs.Run.{IsRunOver}
 use Rattle.fab_base.specs.Ending.{RoseIn}
 pub use Rattle.fab_base.specs.Ending.{IsOldOrFront}
-pub use Rattle.snoop_run.specs.Bridged.{AreOldOrFront}
+pub use Rattle.side_runs.specs.Bridged.{AreOldOrFront}
 use Rattle.fabric_tool.specs.Command.{RunNames}
 use Rattle.run_files.specs.Names.{Among}
 use Rattle.fabric_tool.specs.Inputs.{AreCaptures, HasInputs, IsHeadUnread, StopsBy, stop_of, kept_of}

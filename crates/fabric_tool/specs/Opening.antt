@@ -9,7 +9,7 @@ use Rattle.fab_windows.specs.declared.Done.{Done}
 use Rattle.fab_live.specs.declared.fault.LiveFault.{LiveFault}
 use Rattle.fab_live.specs.declared.fault.LiveFault.TheVariants as live
 use Rattle.enode_core.specs.declared.node.Phase.{Phase}
-use Rattle.snoop_run.specs.declared.run.Crossed.{Crossed}
+use Rattle.side_runs.specs.declared.bridge_run.Crossed.{Crossed}
 use Rattle.fabric_tool.specs.Command.{RunNames, LiveWords, by_port}
 use Rattle.fabric_tool.specs.declared.live.Recorded.{Recorded}
 use Rattle.fabric_tool.specs.declared.making.LoadFiles.{LoadFiles}

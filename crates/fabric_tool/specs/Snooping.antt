@@ -15,8 +15,8 @@ use Rattle.fip_snoop.specs.Messages.{forwarder_of}
 use Rattle.fip_snoop.specs.Ways.{FORWARDER_PORT, way_of}
 use Rattle.fip_snoop.specs.declared.forwarder.Forwarder.{Forwarder}
 use Rattle.fip_snoop.specs.declared.way.Way.TheVariants.{Up}
-use Rattle.snoop_run.specs.Bridged.{HasBridged, HasFronts, HasStop}
-use Rattle.snoop_run.specs.Crossing.{crossing, IsFirstUnread}
+use Rattle.side_runs.specs.Bridged.{HasBridged, HasFronts, HasStop}
+use Rattle.side_runs.specs.Crossing.{crossing, IsFirstUnread}
 use Rattle.fabric_tool.specs.Command.{SnoopNames}
 use Rattle.fabric_tool.specs.Ending.{Ending, Never, Untouched, Leaves, Unread, Unwritten}
 use Rattle.fabric_tool.specs.Inputs.{HasConfig, HasFault, LIMITS}

@@ -3,7 +3,7 @@ ghost use Rattle.std.specs.Prelude.{◌≡◌, ◌+◌, ◌*◌, ◌<◌, ◌≤
 ghost use Rattle.std.specs.Str.{bytes_eq};
 ghost use Rattle.std.specs.List.{list_any};
 ghost use Rattle.fab_base.specs.Places.{name_at};
-ghost use Rattle.snoop_run.specs.Sides.{AreDifferent};
+ghost use Rattle.side_runs.specs.Sides.{AreDifferent};
 ghost use Rattle.fabric_tool.specs.Command as spec;
 
 use crate::number::{number_of, start_of};

@@ -8,10 +8,10 @@ use crate::limits::{MOST_BYTES, MOST_FRAMES};
 use crate::outcome::Outcome;
 use crate::running::stopped;
 use enode_core::{Identity, Phase};
-use enode_run::run_node;
 use fab_base::{Depot, Moment, word_at};
 use pcap_file::Budget;
 use run_files::RunFault;
+use side_runs::run_node;
 use std::alloc::Global;
 
 /// Runs a node over the frames that its port receives, and writes what it sends. The input is read

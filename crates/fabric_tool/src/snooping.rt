@@ -13,7 +13,7 @@ use fab_base::{Depot, word_at};
 use fip_snoop::{data_goes_down, data_goes_up, enodes_are_apart};
 use pcap_file::Budget;
 use run_files::RunFault;
-use snoop_run::{Crossed, run_bridge};
+use side_runs::{Crossed, run_bridge};
 use std::alloc::Global;
 
 /// Lets the frames of all captures cross a bridge, and writes those of each port. All inputs are

@@ -6,7 +6,7 @@ use Rattle.fab_base.specs.Keyed.{item_at, AscendFrom}
 use Rattle.fab_base.specs.Fabric.{may_have, QUARANTINE}
 use Rattle.fab_base.proofs.SamenessLemmas.{found_passes}
 use Rattle.sorted_lists.proofs.IndexLemmas.{none_some, some_same, equal, find_by_key, first_least, none_from, found-from}
-use Rattle.bit_rows.specs.Row.{has}
+use Rattle.sorted_lists.specs.Row.{has}
 use Rattle.fc_addresses.specs.Holders.{may_follow, nobody, owner_by, release_by, owner_of, release_of, owner_number, end_number, owned_by, over_at, IsUnusedPlace, IsOneOf, IsKept}
 use Rattle.fc_addresses.specs.declared.pool.Holder.{Holder}
 use Rattle.fc_addresses.specs.declared.released.Owner.{Owner}

@@ -3,7 +3,7 @@ use Rattle.std.proofs.Common.{◌≡◌, ℕ, ◌+◌, ◌-◌, ◌*◌, ◌^◌
 use Rattle.std.proofs.lemmas.List.{length-set, length-replicate}
 use Rattle.std.proofs.lemmas.Bool.Decides.{nat_tests}
 use Rattle.fab_base.specs.Keyed.{item_at, added}
-use Rattle.bit_rows.specs.Row.{has}
+use Rattle.sorted_lists.specs.Row.{has}
 use Rattle.sorted_lists.proofs.IndexLemmas.{none_some, some_same, differs}
 use Rattle.fc_addresses.specs.Holders.{nobody, is_unused, is_released, owner_by, release_by, owner_of, release_of, owner_number, end_number, owner_place, release_place, left, AreMarked, AreOwners, AreReleases, IsKept}
 use Rattle.fc_addresses.specs.declared.pool.Holder.{Holder}

@@ -7,12 +7,12 @@ use Rattle.std.proofs.lemmas.List.Elements.{All-nil, All-cons, All-map}
 use Rattle.std.specs.List.{All}
 use Rattle.std.proofs.lemmas.List.{get_or-replicate, get_or-set_same, get_or-set_other, length-replicate, length-set}
 use Rattle.std.proofs.lemmas.Bool.{cases_eq}
-use Rattle.bit_rows.specs.Row.{has}
+use Rattle.sorted_lists.specs.Row.{has}
 use Rattle.std.proofs.lemmas.Bool.{cases_lt}
 use Rattle.std.proofs.lemmas.Bool.Decides.{nat_tests}
 use Rattle.std.specs.List.{list_any}
 use Rattle.fab_base.specs.Fabric.{Past, past_at}
-use Rattle.fc_addresses.specs.Pool.{is_open, is_free, has_free, is_held, unused, taken, released, held, ended_at, HoldsAddress, FollowFrom, IsSound, AreEndedBy}
+use Rattle.fc_addresses.specs.Pool.{is_open, is_free, has_free, is_held, unused, taken, released, held, ended_at, never_had, HadAddress, HoldsAddress, EndsLogin, FollowFrom, IsSound, AreEndedBy}
 use Rattle.fc_addresses.specs.Holders.{past_of, pasts_from, may_follow, nobody, is_unused, AreMarked}
 use Rattle.fc_addresses.specs.declared.pool.Holder.{Holder}
 
@@ -124,19 +124,62 @@ found-taken a name pool q holds b = found-changed (λ p. held p.address name) (�
         subst (λ c. option_map (λ p. held p.address name) (past_at c pool) ≡ Some (held a name)) same (address_found a pool q holds (λ c. held c name))
     go false other = refl
 
--- no login ended later than the one that ends now
-pub ended-released : (a now : ℕ) (pool : List Past) → AreEndedBy now pool → AreEndedBy now (released pool a now)
-ended-released a now pool before =
-    All-map (λ p. IfSome p.ended (λ end. end ≤ now)) (λ p. if p.address == a then ended_at now p else p) pool
+-- no login ended after a moment, and one ends then or before
+pub ended-released : (a end now : ℕ) (pool : List Past) → end ≤ now → AreEndedBy now pool → AreEndedBy now (released pool a end)
+ended-released a end now pool by before =
+    All-map (λ p. IfSome p.ended (λ e. e ≤ now)) (λ p. if p.address == a then ended_at end p else p) pool
     (λ i d lt. one (get_or pool i d) ((get_or pool i d).address == a) (before i d lt))
   where
-    one : (p : Past) (b : Bool) → IfSome p.ended (λ end. end ≤ now) → IfSome (if b then ended_at now p else p).ended (λ end. end ≤ now)
-    one p true h = omega arith
+    one : (p : Past) (b : Bool) → IfSome p.ended (λ e. e ≤ now) → IfSome (if b then ended_at end p else p).ended (λ e. e ≤ now)
+    one p true h = by
     one p false h = h
+
+-- and one that begins has no end
+pub ended-taken : (a name now : ℕ) (pool : List Past) → AreEndedBy now pool → AreEndedBy now (taken pool a name)
+ended-taken a name now pool before =
+    All-map (λ p. IfSome p.ended (λ e. e ≤ now)) (λ p. if p.address == a then held p.address name else p) pool
+    (λ i d lt. one (get_or pool i d) ((get_or pool i d).address == a) (before i d lt))
+  where
+    one : (p : Past) (b : Bool) → IfSome p.ended (λ e. e ≤ now) → IfSome (if b then held p.address name else p).ended (λ e. e ≤ now)
+    one p true h = tt
+    one p false h = h
+
+-- ---- an address that nobody had, taken and ended at once
+
+same_number : (a : ℕ) → (a == a) ≡ true
+same_number a = grind (arith, nat_tests)
+
+-- an address that nobody had is free
+pub free-never : (name now a : ℕ) (pool : List Past) → past_at a pool ≡ Some (never_had a) → is_free pool name now a ≡ true
+free-never name now a pool never = ap (λ o. option_map_or (is_open name now) o false) never
+
+-- the address that was taken is held
+pub held-taken : (a name : ℕ) (old new : List Past) → HoldsAddress a name old new → is_held new a ≡ true
+held-taken a name old new holds = ap (λ o. option_map_or (λ p. is_some p.name && is_none p.ended) o false) (holds a ∙ ap (λ t. if t then Some (held a name) else past_at a old) (same_number a))
+
+pub found-had : (a name end : ℕ) (old mid new : List Past) → HoldsAddress a name old mid → EndsLogin a end mid new → HadAddress a name end old new
+found-had a name end old mid new holds ends b = go (a == b) (holds b) (ends b)
+  where
+    go : (t : Bool) → past_at b mid ≡ (if t then Some (held a name) else past_at b old) → past_at b new ≡ (if t then option_map (ended_at end) (past_at b mid) else past_at b mid)
+        → past_at b new ≡ (if t then Some (ended_at end (held a name)) else past_at b old)
+    go true h e = e ∙ ap (option_map (ended_at end)) h
+    go false h e = e ∙ h
 
 -- ---- a pool whose places are l, for the addresses from k on
 
 module _ (pool : List Past) (k : ℕ) (l : List Holder) (places : pasts_from k l ≡ pool) where
+  -- no address below the first has a past
+  pub past-below : (a : ℕ) → a < k → past_at a pool ≡ None
+  past-below a below = rw (← places) (past_at-below a k l below)
+
+  -- an address has the past that its place says
+  pub past-place : (a i : ℕ) (h : Holder) → a ≡ k + i → slice_get l i ≡ Some h → past_at a pool ≡ Some (past_of a h)
+  past-place a i h same at = rw (← places, past_at-place a k i l same, at) refl
+
+  -- no address past the last place has one
+  pub past-past_end : (a i : ℕ) → a ≡ k + i → length l ≤ i → past_at a pool ≡ None
+  past-past_end a i same past = rw (← places, past_at-place a k i l same, slice_get_past l i past) refl
+
   -- no address below the first is free
   pub free-below : (name now a : ℕ) → a < k → is_free pool name now a ≡ false
   free-below name now a below = rw (← places, past_at-below a k l below) refl

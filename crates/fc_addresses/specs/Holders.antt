@@ -1,7 +1,7 @@
 -- How a pool keeps its addresses: one place for each, in order, and the places whose login ended by name and by end. No public
 -- clause cites this module.
 use Rattle.std.specs.Prelude.{◌≡◌, ℕ, ◌+◌, ◌-◌, ◌*◌, ◌<◌, ◌≤◌, ◌^◌, ◌==◌, ◌&&◌, ◌⊎◌, nat_lt, Bool, true, false, List, [], ◌∷◌, length, filter, Option, None, Some, is_some, is_none, slice_index_or, if◌then◌else◌}
-use Rattle.bit_rows.specs.Row.{has}
+use Rattle.sorted_lists.specs.Row.{has}
 use Rattle.fab_base.specs.Fabric.{Past, may_have, QUARANTINE}
 use Rattle.fab_base.specs.Keyed.{AscendFrom, item_at, without}
 use Rattle.fc_addresses.specs.declared.pool.Holder.{Holder}

@@ -45,6 +45,10 @@ abbrev pub unused : ℕ → ℕ → List Past
 unused first zero = []
 unused first (suc count) = record { address = first; name = None; ended = None } ∷ unused (first + 1) count
 
+-- the past of an address that nobody had yet
+abbrev pub never_had : ℕ → Past
+never_had a = record { address = a; name = None; ended = None }
+
 -- the past of an address that a login of the name holds
 abbrev pub held : ℕ → ℕ → Past
 held a name = record { address = a; name = Some name; ended = None }
@@ -68,6 +72,10 @@ HoldsAddress a name old new = (b : ℕ) → past_at b new ≡ (if a == b then So
 -- the login of the address ended now, and every other address has its past
 abbrev pub EndsLogin : ℕ → ℕ → List Past → List Past → Type 0
 EndsLogin a now old new = (b : ℕ) → past_at b new ≡ (if a == b then option_map (ended_at now) (past_at b old) else past_at b old)
+
+-- a login of the name had the address until then, and every other address has its past
+abbrev pub HadAddress : ℕ → ℕ → ℕ → List Past → List Past → Type 0
+HadAddress a name end old new = (b : ℕ) → past_at b new ≡ (if a == b then Some (ended_at end (held a name)) else past_at b old)
 
 -- the addresses of a pool
 abbrev pub addresses : List Past → List ℕ

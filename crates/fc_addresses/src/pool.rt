@@ -2,14 +2,16 @@
 ghost use Rattle.std.specs.Prelude.{◌≡◌, ℕ, ◌+◌, ◌<◌, ◌≤◌, ◌^◌, IsTrue, IfOk, IfSome, is_some, length, vec_capacity};
 ghost use Rattle.fc_addresses.specs.Pool.{unused, is_free, has_free, is_held, AreEndedBy, IsSound};
 ghost use Rattle.fc_addresses.specs.Pool.{addresses, taken, released, HoldsAddress, EndsLogin};
-ghost use Rattle.fc_addresses.specs.Holders.{may_follow, IsUnusedPlace, IsOneOf};
+ghost use Rattle.fc_addresses.specs.Pool.{never_had, HadAddress};
+ghost use Rattle.fc_addresses.specs.Holders.{may_follow, past_of, IsUnusedPlace, IsOneOf};
 ghost use Rattle.fc_addresses.specs.Holders.{owner_number, end_number, owner_of, release_of, left};
+ghost use Rattle.fab_base.specs.Fabric.{past_at};
 ghost use Rattle.fab_base.specs.Keyed.{AscendFrom};
 
+use crate::Past;
 use crate::released::{Owner, QUARANTINE, Release, over_place, owned_place};
-use bit_rows::Tree;
 use fab_base::{FcId, Moment, NoMemory, Wwn};
-use sorted_lists::{HasRank, rank_put, rank_take};
+use sorted_lists::{HasRank, Tree, rank_put, rank_take};
 use std::alloc::Global;
 use std::marker::Model;
 
@@ -29,6 +31,17 @@ impl Holder {
             (None, _) => true,
             (Some(_), None) => false,
             (Some(last), Some(end)) => last == name || now.0.saturating_sub(end.0) > QUARANTINE,
+        }
+    }
+
+    // What its place says of an address.
+    fn past(&self, address: FcId) -> Past
+        ensures { result ≡ past_of address self.now }
+    {
+        Past {
+            address,
+            name: self.name,
+            ended: self.ended,
         }
     }
 }
@@ -175,6 +188,20 @@ impl Pool {
         }
     }
 
+    /// The past of an address, if it is one of the pool.
+    pub fn past(&self, address: FcId) -> Option<Past>
+        ensures past { result ≡ past_at address self.now }
+        ensures sound { IsSound self.now }
+    {
+        let Some(place) = address.value().checked_sub(self.first) else {
+            return None;
+        };
+        match self.holders.get(place as usize) {
+            Some(holder) => Some(holder.past(address)),
+            None => None,
+        }
+    }
+
     /// A login of this name holds the address from now on.
     pub fn take(&mut self, address: FcId, name: Wwn, now: Moment)
         requires free { IsTrue (is_free self.old name now address) }
@@ -202,6 +229,28 @@ impl Pool {
         ensures places { addresses self.new ≡ addresses self.old }
         ensures order { AreEndedBy now self.new }
     {
+        self.end_login(address, now);
+    }
+
+    /// A login of this name had the address until then, which nobody had yet. Of several addresses
+    /// the ends come in any order.
+    pub fn had(&mut self, address: FcId, name: Wwn, end: Moment)
+        requires unused { past_at address self.old ≡ Some (never_had address) }
+        ensures found { HadAddress address name end self.old self.new }
+        ensures places { addresses self.new ≡ addresses self.old }
+        ensures order { (now : ℕ) → end ≤ now → AreEndedBy now self.old → AreEndedBy now self.new }
+    {
+        self.take(address, name, end);
+        self.end_login(address, end);
+    }
+
+    // The login that holds the address ended then.
+    fn end_login(&mut self, address: FcId, end: Moment)
+        requires { IsTrue (is_held self.old address) }
+        ensures pool { self.new ≡ released self.old address end }
+        ensures found { EndsLogin address end self.old self.new }
+        ensures places { addresses self.new ≡ addresses self.old }
+    {
         let place = address.value() - self.first;
         let holder = self.holders[place as usize];
         let Some(name) = holder.name else {
@@ -209,9 +258,9 @@ impl Pool {
         };
         self.holders[place as usize] = Holder {
             name: Some(name),
-            ended: Some(now),
+            ended: Some(end),
         };
         rank_put(&mut self.owners, Owner::new(name, place));
-        rank_put(&mut self.line, Release { end: now, place });
+        rank_put(&mut self.line, Release { end, place });
     }
 }

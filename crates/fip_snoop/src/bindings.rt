@@ -9,7 +9,7 @@ use crate::orders::{
 };
 use fab_base::{FcId, Mac, NoMemory, PortNo, fpma};
 use fip_codec::FipMessage;
-use sorted_trees::SortedTree;
+use sorted_lists::SortedTree;
 use std::alloc::Global;
 use std::marker::Model;
 

@@ -1,8 +1,7 @@
 //! On which ports ENodes are, in the order of their MACs.
 use crate::home::Home;
 use fab_base::{Mac, NoMemory, PortNo};
-use sorted_lists::{HasRank, mac_number};
-use sorted_trees::SortedTree;
+use sorted_lists::{HasRank, SortedTree, mac_number};
 use std::alloc::Global;
 use std::marker::Model;
 

@@ -6,8 +6,7 @@ ghost use Rattle.fip_snoop.specs.Maps as maps;
 
 use crate::Binding;
 use fab_base::Mac;
-use sorted_lists::{HasRank, mac_number};
-use sorted_trees::SortedTree;
+use sorted_lists::{HasRank, SortedTree, mac_number};
 
 impl HasRank for Binding {
     ghost use Rattle.std.specs.Prelude.{◌≡◌, ◌<◌, ◌^◌};

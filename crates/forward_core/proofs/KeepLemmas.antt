@@ -5,9 +5,9 @@ use Rattle.std.proofs.lemmas.List.Elements.{All-head, All-tail}
 use Rattle.fab_config.specs.Settings.{Settings}
 use Rattle.fab_policy.specs.Outputs.{Sent}
 use Rattle.fab_policy.specs.declared.event.Event.{Event}
-use Rattle.fab_messages.specs.Laws.{MessagesAreKept}
-use Rattle.fab_messages.specs.Message.{AreSendable, can_send, sent_of}
-use Rattle.fab_messages.specs.declared.message.Out.{Out}
+use Rattle.fab_sending.specs.MessageLaws.{MessagesAreKept}
+use Rattle.fab_sending.specs.Message.{AreSendable, can_send, sent_of}
+use Rattle.fab_sending.specs.declared.message.Out.{Out}
 use Rattle.fab_sending.specs.declared.sends.Sends.{Sends}
 use Rattle.forward_core.specs.Fabric.{contents_of, IsFabric}
 use Rattle.forward_core.specs.Turns.{Keeps}

@@ -6,7 +6,7 @@ use Rattle.fab_policy.specs.Standing.{Contents, Takes}
 use Rattle.fab_policy.specs.Steps.{after}
 use Rattle.fab_policy.specs.declared.event.Event.{Event}
 use Rattle.fab_policy.specs.declared.verdict.Verdict.{Verdict}
-use Rattle.fab_messages.specs.Message.{caught_in, frame_at}
+use Rattle.fab_sending.specs.Message.{caught_in, frame_at}
 use Rattle.fab_sending.specs.Sends.{AreSent, CanFollow, state_before}
 use Rattle.fab_sending.specs.declared.sends.Before.{Before}
 use Rattle.fab_sending.specs.declared.sends.Sends.{Sends}

@@ -4,16 +4,15 @@ use Rattle.std.specs.List.{All}
 use Rattle.fab_base.specs.declared.values.Caught.{Caught}
 use Rattle.fab_config.specs.Settings.{Settings}
 use Rattle.fab_policy.specs.Free.{Request, is_free}
-use Rattle.fab_policy.specs.Journal.{Journal}
-use Rattle.fab_policy.specs.Legal.{IsNextTick}
+use Rattle.fab_policy.specs.Legal.{IsNextTickBy}
 use Rattle.fab_policy.specs.Ranged.{IsRangedEvent}
-use Rattle.fab_policy.specs.Standing.{Contents, Stands}
+use Rattle.fab_policy.specs.Standing.{Contents}
 use Rattle.fab_policy.specs.State.{Tables, LivePort, port_at}
 use Rattle.fab_policy.specs.Verdicts.{judged, MayGrant}
 use Rattle.fab_policy.specs.declared.event.Event.{Event}
 use Rattle.fab_policy.specs.declared.verdict.Verdict.{Verdict}
 use Rattle.fab_policy.specs.declared.verdict.Verdict.TheVariants.{Granted}
-use Rattle.fab_messages.specs.Message.{sent_of, AreSendable}
+use Rattle.fab_sending.specs.Message.{sent_of, AreSendable}
 use Rattle.fab_roster.specs.Reaching.{zones_of}
 use Rattle.fab_roster.specs.Changes.{IsSoundRoll}
 use Rattle.fab_roster.specs.Roll.{Roll}
@@ -70,11 +69,11 @@ IsTaken c T port caught wish = (r : Request) × (a : ℕ) × (judged c T port ca
 abbrev pub live_at : ℕ → Contents → Option LivePort
 live_at a F = port_at a F.state.tables.ports
 
--- A moment is the next tick of a fabric on the way to a window.
+-- A moment is the next tick of a fabric on the way to a window, by what the fabric keeps.
 pub record IsTickOf (w : ℕ) (F : Contents) (m : ℕ) : Type 0 where
   pub above : IfSome F.state.tables.clock (λ t. t < m)
   pub within : m ≤ w
-  pub next : (J : Journal) → Stands F J → IsNextTick F.settings J w m
+  pub next : IsNextTickBy F.settings F.state w m
 
 -- the address that a verdict grants, if it grants one
 abbrev pub granted_by : Verdict → Option ℕ

@@ -9,7 +9,7 @@ use Rattle.fab_policy.specs.State.{Tables}
 use Rattle.fab_policy.specs.Verdicts.{IsRight}
 use Rattle.fab_policy.specs.declared.event.Event.{Event}
 use Rattle.fab_policy.specs.declared.verdict.Verdict.{Verdict}
-use Rattle.fab_messages.specs.Message.{sent_of}
+use Rattle.fab_sending.specs.Message.{sent_of}
 use Rattle.fab_sending.specs.Sends.{FrameSends, state_before}
 use Rattle.fab_sending.specs.declared.sends.Before.{Before}
 use Rattle.fab_sending.specs.declared.sends.Sends.{Sends}

@@ -1,7 +1,7 @@
 //! What a fabric hands out.
-ghost use Rattle.fab_messages.specs.Message.{AreSendable};
+ghost use Rattle.fab_sending.specs.Message.{AreSendable};
 
-use fab_messages::{EventList, OutList};
+use fab_sending::{EventList, OutList};
 
 /// What happened and was sent since the last time, in order.
 #[derive(Debug, Drop)]

@@ -2,7 +2,7 @@
 ghost use Rattle.std.specs.Prelude.{◌≡◌, ◌<◌, ◌≤◌, [], ◌∷◌, ◌++◌, length, IfOk, IfSome, OnOk, OnErr};
 ghost use Rattle.std.specs.List.{All};
 ghost use Rattle.fab_policy.specs.Ranged.{IsRangedEvent};
-ghost use Rattle.fab_messages.specs.Message.{AreSendable};
+ghost use Rattle.fab_sending.specs.Message.{AreSendable};
 ghost use Rattle.fab_roster.specs.Changes.{IsSize};
 ghost use Rattle.forward_core.specs.Arrived.{entry_of};
 ghost use Rattle.forward_core.specs.Turns.{IsBefore, IsSent, Keeps, KeepsFrame};
@@ -11,9 +11,8 @@ use crate::Fabric;
 use crate::arrived::Arrived;
 use crate::due::in_range;
 use fab_base::{Bytes, Caught, NoMemory, OwnedList};
-use fab_messages::messages_are_kept;
 use fab_policy::{Event, Verdict, known};
-use fab_sending::{Before, Sends};
+use fab_sending::{Before, Sends, messages_are_kept};
 use std::alloc::Global;
 
 impl Fabric {

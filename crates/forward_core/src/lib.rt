@@ -15,7 +15,7 @@ mod tick;
 mod turns;
 
 pub use drained::Drained;
-pub use fab_messages::{EventList, Out, OutList, OutMessage, write_out};
+pub use fab_sending::{EventList, Out, OutList, OutMessage, write_out};
 pub use fabric::Fabric;
 pub use granted::granted_address;
 pub use step::StepFault;

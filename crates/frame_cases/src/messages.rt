@@ -2,13 +2,13 @@
 //! FC-GS-6).
 ghost use Rattle.case_lines.specs.Printing.{Grows};
 ghost use Rattle.std.specs.Prelude.{◌≡◌, ◌<◌, IsTrue, [], IfOk, Some};
-ghost use Rattle.fab_messages.specs.Message.{can_send, frame_at};
+ghost use Rattle.fab_sending.specs.Message.{can_send, frame_at};
 
 use crate::frames::caught;
 use fab_base::{Caught, Moment, NoMemory, PortNo};
 use fab_config::Config;
-use fab_messages::{Answer, EventList, Out, OutMessage, VxPorts, write_out};
 use fab_policy::{Asker, Event, Verdict};
+use fab_sending::{Answer, EventList, Out, OutMessage, VxPorts, write_out};
 use fip_codec::{LoginKind, VxPort};
 use std::alloc::Global;
 use table_cases::say::end_hex;

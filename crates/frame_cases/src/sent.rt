@@ -2,8 +2,8 @@
 ghost use Rattle.case_lines.specs.Printing.{Grows};
 
 use case_lines::put_hex;
-use fab_messages::{Answer, Out, OutList, OutMessage};
 use fab_policy::Asker;
+use fab_sending::{Answer, Out, OutList, OutMessage};
 use table_cases::say::{
     end, end_address, end_hex, end_number, say, say_address, say_mac, say_number, say_when,
 };

@@ -13,7 +13,7 @@ use Rattle.slab.proofs.SlabLemmas.{ContainsKey-within}
 use Rattle.fab_base.specs.Keyed.{item_at, changed_if}
 use Rattle.fab_base.specs.Keyed as spec
 use Rattle.fab_base.proofs.KeyedLemmas as keyed
-use Rattle.bit_rows.specs.Row.{has}
+use Rattle.sorted_lists.specs.Row.{has}
 use Rattle.sorted_lists.proofs.IndexLemmas.{key_found, none_some, some_same, equal, unequal, differs, length-gone, kept-without, here-added, kept-added}
 use Rattle.ct_messages.specs.Answer.{has_type}
 use Rattle.ct_messages.specs.Server.{NO_TYPES}

@@ -7,7 +7,7 @@ use Rattle.std.proofs.lemmas.List.{drop_all}
 use Rattle.std.proofs.lemmas.Option.{slice_get-get_or, slice_get_past}
 use Rattle.std.proofs.lemmas.Bool.Decides.{nat_tests}
 use Rattle.std.proofs.lemmas.List.Elements.{All-head, All-tail}
-use Rattle.bit_rows.specs.Row.{has, IsNextBit}
+use Rattle.sorted_lists.specs.Row.{has, IsNextBit}
 use Rattle.sorted_lists.proofs.IndexLemmas.{some_same}
 use Rattle.ct_messages.specs.Answer.{has_type}
 use Rattle.ct_messages.specs.Server.{Known, first_of, or_first, next_port, of_type}

@@ -6,8 +6,8 @@ use Rattle.std.specs.declared.alloc.Global.{Global}
 use Rattle.std.proofs.lemmas.Bool.{cases_lt, cases_eq}
 use Rattle.std.proofs.lemmas.List.{get_or-set_same, get_or-set_other, length-set, drop_all, take_all}
 use Rattle.std.proofs.lemmas.Option.{slice_get-get_or, slice_get_past, slice_get_cases}
-use Rattle.bit_rows.specs.Row.{has}
-use Rattle.bit_rows.proofs.RowLemmas.{has-none}
+use Rattle.sorted_lists.specs.Row.{has}
+use Rattle.sorted_lists.proofs.RowLemmas.{has-none}
 use Rattle.ct_messages.specs.Answer.{has_type}
 use Rattle.ct_messages.specs.declared.TypeMap.{TypeMap}
 use Rattle.name_server.specs.Places.{row_of, AreWide}

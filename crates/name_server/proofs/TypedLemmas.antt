@@ -6,8 +6,8 @@ use Rattle.std.proofs.lemmas.Bool.{cases_lt, cases_order}
 use Rattle.std.proofs.lemmas.Bool.Decides.{nat_tests}
 use Rattle.slab.specs.Slab.{Slab, get}
 use Rattle.fab_base.specs.Keyed.{item_at}
-use Rattle.bit_rows.specs.Row.{has, IsNextBit}
-use Rattle.bit_rows.proofs.RowLemmas.{has-past}
+use Rattle.sorted_lists.specs.Row.{has, IsNextBit}
+use Rattle.sorted_lists.proofs.RowLemmas.{has-past}
 use Rattle.sorted_lists.proofs.IndexLemmas.{key_found, some_same}
 use Rattle.name_server.specs.Registry.{Entry, entry_at}
 use Rattle.name_server.specs.Places.{placed_address, entries_of, row_of, is_of_type, HasPlaces}

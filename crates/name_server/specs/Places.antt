@@ -6,7 +6,7 @@ use Rattle.std.specs.Option.{option_map_or}
 use Rattle.std.specs.declared.alloc.Global.{Global}
 use Rattle.slab.specs.Slab.{Slab, get, slab_len}
 use Rattle.fab_base.specs.Keyed.{item_at, AscendFrom}
-use Rattle.bit_rows.specs.Row.{has}
+use Rattle.sorted_lists.specs.Row.{has}
 use Rattle.ct_messages.specs.Answer.{has_type}
 use Rattle.name_server.specs.Registry.{Entry, IsKept}
 use Rattle.name_server.specs.declared.placed.Placed.{Placed}

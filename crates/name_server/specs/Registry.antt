@@ -70,6 +70,18 @@ registered a ask e = keyed.changed_if address_of a (updated ask) e
 abbrev pub with_registration : ℕ → Ask → List Entry → List Entry
 with_registration a ask entries = keyed.changed address_of a (updated ask) entries
 
+-- an entry with other values
+abbrev pub revalued : Values → Entry → Entry
+revalued v e = record e { values = v }
+
+-- the same, if its address is this one
+abbrev pub valued : ℕ → Values → Entry → Entry
+valued a v e = keyed.changed_if address_of a (revalued v) e
+
+-- the entry of this address has other values; the others stay
+abbrev pub with_values : ℕ → Values → List Entry → List Entry
+with_values a v entries = keyed.changed address_of a (revalued v) entries
+
 -- ---- the N_Ports that an asker may see
 
 -- the key of a seen N_Port

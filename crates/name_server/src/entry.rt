@@ -1,30 +1,21 @@
-//! What is registered of one N_Port.
+//! The entry of one N_Port.
 ghost use Rattle.std.specs.Prelude.{◌≡◌, true};
 ghost use Rattle.ct_messages.specs.Ask.{view};
 ghost use Rattle.ct_messages.specs.CanWrite.{CanWrite, IsSymbol};
 ghost use Rattle.ct_messages.specs.Server.{after, has_changed, is_registration, feature_words};
-ghost use Rattle.name_server.specs.Registry.{entered, IsKept};
+ghost use Rattle.name_server.specs.Registry.{entered, revalued, IsKept};
 
-use crate::features::{feature_map, no_features};
-use arrayvec::ArrayVec;
+use crate::Values;
 use ct_messages::{CtAsk, FeatureMap, TypeMap};
 use fab_base::{FcId, HasAddress, Wwn};
 use std::marker::Model;
-
-/// The longest symbolic name, in bytes.
-const SYMBOL: usize = 255;
 
 /// An N_Port, the node name of its login, and what it registered.
 #[derive(Debug, Drop)]
 pub(crate) struct Entry {
     address: FcId,
     node: Wwn,
-    node_name: Wwn,
-    types: TypeMap,
-    /// The feature of each type, four bits.
-    features: [u8; 256],
-    symbol: ArrayVec<u8, SYMBOL>,
-    node_symbol: ArrayVec<u8, SYMBOL>,
+    values: Values,
 }
 
 impl Model for Entry {
@@ -32,25 +23,9 @@ impl Model for Entry {
 
     ghost Value = { Registered };
 
-    ghost view = { λ e. record {
-      address = e.address;
-      node = e.node;
-      values = record {
-        node_name = e.node_name;
-        types = e.types;
-        features = e.features;
-        symbol = e.symbol.items;
-        node_symbol = e.node_symbol.items;
-      };
-    } };
+    ghost view = { λ e. record { address = e.address; node = e.node; values = e.values } };
 
-    ghost invariant = { λ e. IsKept (record {
-      node_name = e.node_name;
-      types = e.types;
-      features = e.features;
-      symbol = e.symbol.items;
-      node_symbol = e.node_symbol.items;
-    }) };
+    ghost invariant = { λ e. IsKept e.values };
 }
 
 impl HasAddress for Entry {
@@ -70,45 +45,47 @@ impl Entry {
         Entry {
             address,
             node,
-            node_name: node,
-            types: TypeMap([0; 8]),
-            features: no_features(),
-            symbol: ArrayVec::new(),
-            node_symbol: ArrayVec::new(),
+            values: Values::new(node),
         }
+    }
+
+    pub(crate) fn values(&self) -> &Values
+        ensures { result.now ≡ self.now.values }
+    {
+        &self.values
     }
 
     pub(crate) fn node_name(&self) -> Wwn
         ensures { result ≡ self.now.values.node_name }
     {
-        self.node_name
+        self.values.node_name()
     }
 
     pub(crate) fn types(&self) -> TypeMap
         ensures { result ≡ self.now.values.types }
     {
-        self.types
+        self.values.types()
     }
 
     pub(crate) fn symbol(&self) -> &[u8]
         ensures value { result.now ≡ self.now.values.symbol }
         ensures size { IsSymbol self.now.values.symbol }
     {
-        self.symbol.as_slice()
+        self.values.symbol()
     }
 
     pub(crate) fn node_symbol(&self) -> &[u8]
         ensures value { result.now ≡ self.now.values.node_symbol }
         ensures size { IsSymbol self.now.values.node_symbol }
     {
-        self.node_symbol.as_slice()
+        self.values.node_symbol()
     }
 
     /// The features of all types in their words.
     pub(crate) fn features(&self) -> FeatureMap
         ensures { result ≡ feature_words self.now.values.features }
     {
-        feature_map(&self.features)
+        self.values.feature_words()
     }
 
     /// Whether a registration would change the types or a feature.
@@ -117,16 +94,7 @@ impl Entry {
         ensures { result ≡ has_changed self.now.values
             (after self.now.node (view ask.now) self.now.values) }
     {
-        match ask {
-            CtAsk::SetTypes(_, types) => self.types != *types,
-            CtAsk::SetFeature { feature, kind, .. } => {
-                let mut features = self.features;
-                features[*kind as usize] = *feature;
-                self.features != features
-            }
-            CtAsk::Erase(_) => self.types != TypeMap([0; 8]) || self.features != no_features(),
-            _ => false,
-        }
+        self.values.is_changed_by(self.node, ask)
     }
 
     /// Takes a registration over. True where it changes the types or a feature.
@@ -140,39 +108,14 @@ impl Entry {
         ensures noticed { result ≡ has_changed self.old.values self.new.values }
         ensures kept { IsKept self.new.values }
     {
-        let types = self.types;
-        let features = self.features;
-        self.set(ask);
-        types != self.types || features != self.features
+        self.values.register(self.node, ask)
     }
 
-    fn set(&mut self, ask: &CtAsk<'_>)
-        requires registration { is_registration (view ask.now) ≡ true }
-        requires size { CanWrite (view ask.now) }
-        ensures entry { self.new ≡ record self.old {
-          values = after self.old.node
-              (view ask.now) self.old.values;
-        } }
+    /// These values, in the place of those that it had.
+    pub(crate) fn set_values(&mut self, values: &Values)
+        ensures entry { self.new ≡ revalued values.now self.old }
         ensures kept { IsKept self.new.values }
     {
-        match ask {
-            CtAsk::SetNode(_, name) => self.node_name = *name,
-            CtAsk::SetTypes(_, types) => self.types = *types,
-            CtAsk::SetSymbol(_, symbol) => set_symbol(&mut self.symbol, symbol),
-            CtAsk::SetFeature { feature, kind, .. } => self.features[*kind as usize] = *feature,
-            CtAsk::SetNodeSymbol(_, symbol) => set_symbol(&mut self.node_symbol, symbol),
-            CtAsk::Erase(_) => *self = Entry::new(self.address, self.node),
-            _ => unreachable!(),
-        }
+        self.values.copy_from(values);
     }
-}
-
-fn set_symbol(symbol: &mut ArrayVec<u8, SYMBOL>, text: &[u8])
-    requires { IsSymbol text.now }
-    ensures { symbol.new.items ≡ text.now }
-{
-    symbol.clear();
-    let Ok(()) = symbol.try_extend_from_slice(text) else {
-        unreachable!()
-    };
 }

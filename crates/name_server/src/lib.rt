@@ -12,7 +12,9 @@ mod refusals;
 mod registry;
 mod seen;
 mod types;
+mod values;
 
 pub use refusals::RegFault;
 pub use registry::{Change, Registry};
 pub use seen::{Seen, SeenPort};
+pub use values::Values;

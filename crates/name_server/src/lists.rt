@@ -6,9 +6,9 @@ ghost use Rattle.name_server.specs.Views.{AreSeen, as_known, name_of};
 
 use crate::ports::{Known, with_entry};
 use crate::{Registry, SeenPort};
-use bit_rows::next_bit;
 use ct_messages::{Named, NamedList};
 use fab_base::{IdList, NoMemory, Wwn};
+use sorted_lists::next_bit;
 use std::alloc::Global;
 
 /// Which name of an N_Port is listed.

@@ -1,10 +1,10 @@
 //! The registry: its entries at places of their own, by address and by type.
 ghost use Rattle.std.specs.Prelude.{◌≡◌, ℕ, ◌<◌, ◌≤◌, ◌^◌, if◌then◌else◌, ◌==◌, length, IfOk, IfErr, OnOk, OnErr, IsSome, Some, None, [], is_some, true, false, option_map, option_copied, slice_get};
-ghost use Rattle.bit_rows.specs.Row.{has};
+ghost use Rattle.sorted_lists.specs.Row.{has};
 ghost use Rattle.ct_messages.specs.Ask.{view};
 ghost use Rattle.ct_messages.specs.CanWrite.{CanWrite, CanTell};
 ghost use Rattle.ct_messages.specs.Server as server;
-ghost use Rattle.name_server.specs.Registry.{Registrations, entry_at, entered, added, without, registered, with_registration, refusal, is_noticed, codes, seen_at, AreEntered, known, SeenAscend, IsSound};
+ghost use Rattle.name_server.specs.Registry.{Registrations, entry_at, entered, added, without, registered, with_registration, valued, with_values, refusal, is_noticed, codes, seen_at, AreEntered, known, SeenAscend, IsSound};
 ghost use Rattle.name_server.specs.Views.{seen_of_type};
 
 use crate::answers::answer_of;
@@ -13,12 +13,11 @@ use crate::placed::{Placed, place_of, take_place};
 use crate::refusals::refusal_of;
 use crate::seen::mark;
 use crate::types::{TypeRows, next_of_type, no_types, put_types};
-use crate::{RegFault, Seen, SeenPort};
-use bit_rows::{Row, empty_row};
+use crate::{RegFault, Seen, SeenPort, Values};
 use ct_messages::{CtAsk, CtTell, TypeMap};
 use fab_base::{FcId, HasAddress, NoMemory, Wwn};
 use slab::Slab;
-use sorted_lists::rank_put;
+use sorted_lists::{Row, empty_row, rank_put};
 use std::alloc::Global;
 use std::marker::Model;
 
@@ -152,6 +151,18 @@ impl Registry {
         self.find(address).map(|entry| entry.node_name())
     }
 
+    /// What is registered of an N_Port.
+    pub fn values(&self, address: FcId) -> Option<&Values>
+        ensures values { option_copied result ≡ option_map (λ e. e.values)
+            (entry_at address self.now.entries) }
+        ensures sound { IsSound self.now }
+    {
+        match self.find(address) {
+            Some(entry) => Some(entry.values()),
+            None => None,
+        }
+    }
+
     /// Why a registration of the asker would be refused; none where the asker isn't entered.
     pub fn refusal(&self, asker: FcId, ask: &CtAsk<'_>) -> Option<RegFault>
         ensures codes { option_map codes result
@@ -211,6 +222,26 @@ impl Registry {
         let types = entry.types();
         put_types(&mut self.types, place, types);
         Ok(Change { noticed })
+    }
+
+    /// Other values of an N_Port, in the place of those that it had.
+    pub fn set_values(&mut self, address: FcId, values: &Values)
+        requires { IsSome (entry_at address self.old.entries) }
+        ensures entries { self.new ≡ record self.old {
+          entries = with_values address values.now self.old.entries;
+        } }
+        ensures found { (a : ℕ) → entry_at a self.new.entries
+            ≡ option_map (valued address values.now) (entry_at a self.old.entries) }
+        ensures sound { IsSound self.new }
+    {
+        let Some(place) = place_of(&self.index, address) else {
+            unreachable!()
+        };
+        let Some(entry) = self.entries.get_mut(place) else {
+            unreachable!()
+        };
+        entry.set_values(values);
+        put_types(&mut self.types, place, values.types());
     }
 
     /// The answer to a request that is no registration, over the N_Ports that the asker may see.

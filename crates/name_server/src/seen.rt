@@ -1,13 +1,12 @@
 //! The N_Ports that an asker may see.
 ghost use Rattle.std.specs.Prelude.{◌≡◌, ℕ, ◌<◌, ◌/◌, ◌||◌, [], ◌∷◌, ◌++◌, length, slice_get, IfOk, OnOk, OnErr};
 ghost use Rattle.std.specs.List.{All};
-ghost use Rattle.bit_rows.specs.Row.{has};
+ghost use Rattle.sorted_lists.specs.Row.{has};
 ghost use Rattle.name_server.specs.Registry.{SeenAscend};
 ghost use Rattle.name_server.specs.Views.{is_at};
 
-use bit_rows::{Row, put_bit};
 use fab_base::{FcId, HasAddress, NoMemory, Wwn};
-use sorted_lists::place_at;
+use sorted_lists::{Row, place_at, put_bit};
 use std::alloc::Global;
 use std::marker::Model;
 

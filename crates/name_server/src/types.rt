@@ -1,12 +1,12 @@
 //! For each FC-4 type a row of bits with the places of the entries that have it.
 ghost use Rattle.std.specs.Prelude.{◌≡◌, ◌==◌, ◌<◌, ◌≤◌, ◌^◌, ◌/◌, ◌+◌, ℕ, if◌then◌else◌, false, length, IfOk};
-ghost use Rattle.bit_rows.specs.Row.{has, IsNextBit};
+ghost use Rattle.sorted_lists.specs.Row.{has, IsNextBit};
 ghost use Rattle.ct_messages.specs.Answer.{has_type};
 ghost use Rattle.name_server.specs.Places.{row_of, AreWide};
 
-use bit_rows::{Row, clear_bit, empty_row, next_bit, put_bit};
 use ct_messages::TypeMap;
 use fab_base::NoMemory;
+use sorted_lists::{Row, clear_bit, empty_row, next_bit, put_bit};
 use std::alloc::Global;
 
 pub(crate) type TypeRows = Vec<Row>;

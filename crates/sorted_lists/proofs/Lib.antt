@@ -4,3 +4,6 @@ pub mod EnodeLemmas
 pub mod OrderLemmas
 pub mod PlacingLemmas
 pub mod ReachLemmas
+pub mod EntryLemmas
+pub mod RowLemmas
+pub mod TreeLemmas

@@ -1,4 +1,5 @@
-//! Lists that ascend by address: where an item stands, or would stand, by quarters.
+//! Orders: lists that ascend by address (where an item stands, or would stand, by quarters), lists
+//! of places, one order in a B-tree, and rows of bits.
 #![tactic(auto)]
 
 ghost use Rattle.std.specs.Prelude.{◌≡◌, ◌==◌, ◌<◌, ◌≤◌, nat_lt, nat_le, length, position, option_copied, unwrap_or};
@@ -9,6 +10,9 @@ mod enode;
 mod orders;
 mod quarters;
 mod ranked;
+mod row_tree;
+mod rows;
+mod trees;
 
 pub use enode::{enode_number, mac_number};
 use fab_base::{FcId, HasAddress};
@@ -17,6 +21,9 @@ use quarters::reach;
 pub use ranked::{
     HasRank, rank_above, rank_at, rank_find, rank_from, rank_next, rank_put, rank_take,
 };
+pub use row_tree::Tree;
+pub use rows::{Row, clear_bit, empty_row, full_row, next_bit, put_bit, set_bit, share_a_place};
+pub use trees::SortedTree;
 
 /// The place of the first item whose address isn't below the bound, or past the end.
 pub fn place_from<T: HasAddress>(items: &[T], from: u32) -> usize

@@ -7,8 +7,8 @@ mod process;
 mod same;
 mod streams;
 mod telling;
-#[cfg(test)]
-mod tests_edge;
 mod trouble;
 
-pub use process::run_process;
+pub use edge::FileDepot;
+pub use process::{run_process, status_of_process, words_of};
+pub use same::{Spot, standard_output};

@@ -72,7 +72,7 @@ fn status_over<R: Threads + Wait + Sync + Files, K: Sink>(
 
 /// The words behind the program's name. A command line that isn't UTF-8 is no command, and memory
 /// for it may be refused.
-pub(crate) fn words_of<R: Env + AllocGlobal>(rt: &R) -> Result<Vec<String>, Outcome>
+pub fn words_of<R: Env + AllocGlobal>(rt: &R) -> Result<Vec<String>, Outcome>
     ensures { IfErr result (λ o. (o ≡ Outcome.Words) ⊎ (o ≡ Outcome.Memory)) }
 {
     match env::args(rt) {
@@ -108,7 +108,7 @@ fn behind_the_first(words: Vec<String>) -> Vec<String>
 
 /// Runs the command that words are over a depot that knows them, prints its line, and answers its
 /// status. No test holds a worker.
-pub(crate) fn status_of_process<R: Threads + Wait + Sync, D: Depot, K: Sink>(
+pub fn status_of_process<R: Threads + Wait + Sync, D: Depot, K: Sink>(
     rt: &R,
     alloc: Global,
     words: &[String],

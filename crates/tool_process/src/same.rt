@@ -15,7 +15,7 @@ use std::rt::Files;
 
 /// Where the file of a name lies, by the numbers of a device and an inode.
 #[derive(Debug, Drop)]
-pub(crate) enum Spot {
+pub enum Spot {
     /// A regular file.
     File {
         device: u64,
@@ -141,7 +141,7 @@ fn mix_by(spots: &[Spot], printed: &Spot) -> Mix
 }
 
 /// Where the standard output leads.
-pub(crate) fn standard_output<R: Files>(files: &R) -> Spot {
+pub fn standard_output<R: Files>(files: &R) -> Spot {
     match fs::metadata(files, "/proc/self/fd/1") {
         Ok(found) => spot_at(&found),
         Err(_) => Spot::Other,

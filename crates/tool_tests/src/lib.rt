@@ -8,6 +8,8 @@ mod inputs;
 #[cfg(test)]
 mod limits;
 #[cfg(test)]
+mod process;
+#[cfg(test)]
 mod quiet;
 #[cfg(test)]
 mod stores;

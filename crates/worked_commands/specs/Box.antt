@@ -32,7 +32,7 @@ use Rattle.fip_snoop.specs.Bridge as bridge
 use Rattle.fip_snoop.specs.Messages.{forwarder_of}
 use Rattle.fip_snoop.proofs.LawLemmas.{data_up}
 use Rattle.fip_snoop.proofs.WayLemmas.{data_down, enodes_are_apart}
-use Rattle.snoop_run.proofs.TakenLemmas.{taken_are_captures}
+use Rattle.side_runs.proofs.TakenLemmas.{taken_are_captures}
 use Rattle.enode_core.specs.Laws.{IsAmong, IsTyped}
 use Rattle.enode_core.specs.declared.node.Phase.TheVariants as phase
 use Rattle.enode_core.proofs.RunLemmas.{runs_are_granted}
@@ -43,7 +43,7 @@ use Rattle.fabric_tool.specs.Left.{HasRun, IsSafe}
 use Rattle.fabric_tool.specs.Snooping.{HasSnooped}
 use Rattle.fabric_tool.proofs.SafeLemmas as safe_lemmas
 use Rattle.pcap_file.specs.Captures.{unless_stopped}
-use Rattle.snoop_run.specs.Crossing.{unless_too_long}
+use Rattle.side_runs.specs.Crossing.{unless_too_long}
 use Rattle.fabric_box.specs.Box.{Any, AreCarried, Files, IsAt, IsFreeOf, IsGranted, AreDone, AreBridged, BridgedIsGranted}
 use Rattle.worked_commands.specs.Boxed.{own, at, advertisement, accept, request, solicitation, flogi, requests, answers, passed, capture_of, inputs, node_run, node_leaves, node_is_up, node_ox_id, passed_is_taken, both_are_taken, bridge_leaves, bridge_counts, J, run, run_leaves}
 use Rattle.worked_commands.specs.Running.{value}

@@ -20,14 +20,14 @@ use Rattle.enode_core.specs.declared.node.Phase.TheVariants as phase
 use Rattle.enode_core.specs.Frames as frames
 use Rattle.enode_core.specs.Phases.{phase_of}
 use Rattle.enode_core.specs.Runs as runs
-use Rattle.enode_run.specs.Course as course
+use Rattle.side_runs.specs.Course as course
 use Rattle.pcap_file.specs.Captures.{capture_by, captures_by}
-use Rattle.enode_run.specs.Files.{taken_by}
+use Rattle.side_runs.specs.NodeFiles.{taken_by}
 use Rattle.fabric_tool.specs.Inputs.{LIMITS}
 use Rattle.fip_snoop.specs.Bridge as bridge
 use Rattle.fip_snoop.specs.Messages.{forwarder_of}
 use Rattle.fip_snoop.specs.Ways as ways
-use Rattle.snoop_run.specs.Crossing.{captures}
+use Rattle.side_runs.specs.Crossing.{captures}
 use Rattle.fab_policy.specs.Journal.{Journal}
 use Rattle.fab_policy.specs.Legal as legal
 use Rattle.fab_policy.specs.Outputs as outputs

@@ -16,3 +16,6 @@ pub mod EmptyLineRefused
 pub mod LinesRefused
 pub mod Boxed
 pub mod Box
+pub mod Packets
+pub mod Silent
+pub mod Streams

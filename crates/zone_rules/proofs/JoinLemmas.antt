@@ -10,7 +10,7 @@ use Rattle.fab_config.specs.declared.Zone.{Zone}
 use Rattle.zone_rules.specs.Joined.{contains, has_zone_of, active_set, is_active, joined, next_change}
 use Rattle.fab_config.specs.declared.ZoneSet.{ZoneSet}
 use Rattle.fab_config.specs.declared.Activation.{Activation}
-use Rattle.bit_rows.specs.Row.{has, IsCommon, HasNone}
+use Rattle.sorted_lists.specs.Row.{has, IsCommon, HasNone}
 use Rattle.zone_rules.specs.Index.{lists}
 
 -- there is an item at each place of a list

@@ -5,10 +5,10 @@ use Rattle.std.proofs.lemmas.Bool.{ne_eqb}
 use Rattle.fab_config.specs.declared.Zone.{Zone}
 use Rattle.fab_config.specs.declared.ZoneSet.{ZoneSet}
 use Rattle.zone_rules.specs.Joined.{contains, is_active}
-use Rattle.bit_rows.specs.Row.{has}
+use Rattle.sorted_lists.specs.Row.{has}
 use Rattle.zone_rules.specs.Index.{AreRows, of_set, lists}
 use Rattle.zone_rules.proofs.JoinLemmas.{take_slice, contains-push}
-use Rattle.bit_rows.proofs.RowLemmas.{has-none}
+use Rattle.sorted_lists.proofs.RowLemmas.{has-none}
 
 pub AreRows-push : (n : ℕ) (rows : List (Vec ℕ Global)) (sets : List ZoneSet) (r : Vec ℕ Global) (s : ZoneSet) → AreRows n rows sets → ((q : ℕ) → q < n → has r.items q ≡ contains q s.places) → AreRows n (rows ++ r ∷ []) (sets ++ s ∷ [])
 AreRows-push n [] [] r s are is = (is, tt)

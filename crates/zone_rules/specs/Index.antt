@@ -8,7 +8,7 @@ use Rattle.std.specs.declared.hash.FoldHasher.{FoldHasher}
 use Rattle.std.specs.declared.hash.BuildHasherDefault.{BuildHasherDefault}
 use Rattle.fab_config.specs.declared.Zone.{Zone}
 use Rattle.fab_config.specs.declared.ZoneSet.{ZoneSet}
-use Rattle.bit_rows.specs.Row.{has}
+use Rattle.sorted_lists.specs.Row.{has}
 use Rattle.zone_rules.specs.Joined as spec
 
 -- ---- names

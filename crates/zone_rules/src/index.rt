@@ -1,12 +1,12 @@
 //! For each name a row with the bits of the zones that list it.
 ghost use Rattle.std.specs.Prelude.{◌≡◌, ◌==◌, ◌&&◌, ◌||◌, ℕ, IfOk, OnOk};
-ghost use Rattle.bit_rows.specs.Row.{has};
+ghost use Rattle.sorted_lists.specs.Row.{has};
 ghost use Rattle.zone_rules.specs.Joined as spec;
 ghost use Rattle.zone_rules.specs.Index.{of_name, IsIndex};
 
-use bit_rows::{Row, set_bit};
 use fab_base::NoMemory;
 use fab_config::{NameList, ZoneList};
+use sorted_lists::{Row, set_bit};
 use std::alloc::Global;
 use std::collections::HashMap;
 

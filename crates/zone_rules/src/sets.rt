@@ -1,12 +1,12 @@
 //! For each zone set a row with the bits of the zones that it lists.
 ghost use Rattle.std.specs.Prelude.{◌≡◌, ◌<◌, ℕ, IfOk};
-ghost use Rattle.bit_rows.specs.Row.{has};
+ghost use Rattle.sorted_lists.specs.Row.{has};
 ghost use Rattle.zone_rules.specs.Joined as spec;
 ghost use Rattle.zone_rules.specs.Index.{of_set, AreRows};
 
-use bit_rows::{Row, set_bit};
 use fab_base::{NoMemory, OwnedList};
 use fab_config::{PlaceList, SetList};
+use sorted_lists::{Row, set_bit};
 use std::alloc::Global;
 
 pub(crate) type SetRows = OwnedList<Row>;

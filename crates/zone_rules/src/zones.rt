@@ -6,9 +6,9 @@ ghost use Rattle.zone_rules.specs.Rules.{ZoneRules};
 
 use crate::index::{NameRows, index_of, row_of_name};
 use crate::sets::{SetRows, row_of_set, rows_of_sets};
-use bit_rows::share_a_place;
 use fab_base::{Moment, NoMemory, Wwn};
 use fab_config::{ActivationList, SetList, ZoneList};
+use sorted_lists::share_a_place;
 use std::alloc::Global;
 use std::marker::Model;
 use std::snapshot::Snapshot;

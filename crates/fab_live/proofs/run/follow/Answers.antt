@@ -1,7 +1,9 @@
-use Rattle.std.proofs.Common.{refl, arith, subst, sym, Err}
+use Rattle.std.proofs.Common.{refl, arith, length, subst, sym, Err}
 use Rattle.fab_live.specs.Files.{slots_of}
 use Rattle.fab_live.specs.Live.{LiveRuns}
 use Rattle.fab_live.proofs.LoopLemmas.{looping_first, looping_input, ended, failed, no_port, kept_here, running_here, room, refused, looping_on, read_as, read_less}
+use Rattle.fab_live.specs.Ready.{nothing_of_live}
+use Rattle.fab_live.proofs.ReadyLemmas.{room_of}
 use Rattle.fab_live.proofs.run.follow.Goals as goal
 
 pub packets-init : goal.packets-init
@@ -35,14 +37,10 @@ returns-then-packet-files g c =
     let seen = g.D.Depot.seen in
     record { runs = no_port c.args.live.now.fabric.settings (slots_of c.args.files.now) c.args.stream c.args.budget (seen c.args.depot.now) c.packets.live c.packets.packets (seen c.packets.depot) c.packets.invariant c.next.new.self (seen c.next.new.depot) c.in-Some.packet (read_as _ _ _ _ _ c.in-Some.is c.in-Ok.ensures.reads) (let h = c.if-packet-files.true in omega (arith, h)) }
 
-pub take-requires-clause-running : goal.take-requires-clause-running
-take-requires-clause-running g c κs within =
-    let seen = g.D.Depot.seen in (
-      c.args.live.now.fabric.settings,
-      c.packets.invariant.packets,
-      c.packets.invariant.entry_list,
-      running_here c.args.live.now.fabric.settings (slots_of c.args.files.now) c.args.stream c.args.budget (seen c.args.depot.now) c.packets.live c.packets.packets (seen c.packets.depot) c.packets.invariant c.next.new.self (seen c.next.new.depot) c.in-Some.packet (read_as _ _ _ _ _ c.in-Some.is c.in-Ok.ensures.reads),
-    )
+pub take-requires-clause-ready : goal.take-requires-clause-ready
+take-requires-clause-ready g c κs within =
+    let seen = g.D.Depot.seen in
+    (running_here c.args.live.now.fabric.settings (slots_of c.args.files.now) c.args.stream c.args.budget (seen c.args.depot.now) c.packets.live c.packets.packets (seen c.packets.depot) c.packets.invariant c.next.new.self (seen c.next.new.depot) c.in-Some.packet (read_as _ _ _ _ _ c.in-Some.is c.in-Ok.ensures.reads)).ready
 
 pub take-requires-clause-face : goal.take-requires-clause-face
 take-requires-clause-face g c κs within = let h = c.if-packet-files.false in omega (arith, h)
@@ -55,7 +53,10 @@ take-requires-clause-kept g c κs within =
 pub take-requires-clause-room : goal.take-requires-clause-room
 take-requires-clause-room g c κs within =
     let seen = g.D.Depot.seen in
-    room c.args.live.now.fabric.settings (slots_of c.args.files.now) c.args.stream c.args.budget (seen c.args.depot.now) c.packets.live c.packets.packets (seen c.packets.depot) c.packets.invariant c.next.new.self (seen c.next.new.depot) c.in-Some.packet (read_as _ _ _ _ _ c.in-Some.is c.in-Ok.ensures.reads) c.limits-frames.ensures.1
+    let all = room c.args.live.now.fabric.settings (slots_of c.args.files.now) c.args.stream c.args.budget (seen c.args.depot.now) c.packets.live c.packets.packets (seen c.packets.depot) c.packets.invariant c.next.new.self (seen c.next.new.depot) c.in-Some.packet (read_as _ _ _ _ _ c.in-Some.is c.in-Ok.ensures.reads) c.limits-frames.ensures.1 in (
+      all,
+      room_of c.args.live.now.fabric.settings (length c.args.files.now.outs.now) (slots_of c.args.files.now) c.packets.invariant.packets c.packets.invariant.entry_list c.packets.live _ refl (running_here c.args.live.now.fabric.settings (slots_of c.args.files.now) c.args.stream c.args.budget (seen c.args.depot.now) c.packets.live c.packets.packets (seen c.packets.depot) c.packets.invariant c.next.new.self (seen c.next.new.depot) c.in-Some.packet (read_as _ _ _ _ _ c.in-Some.is c.in-Ok.ensures.reads)) all c.in-Some.packet.face,
+    )
 
 pub same-packets : goal.same-packets
 same-packets g c = refl
@@ -69,7 +70,7 @@ pub packets-preserved : goal.packets-preserved
 packets-preserved g c =
     let seen = g.D.Depot.seen in
     let r = read_as _ _ _ _ _ c.in-Some.is c.in-Ok.ensures.reads in
-    let on = c.in-Ok-take.ensures.takes c.args.live.now.fabric.settings c.packets.invariant.packets c.packets.invariant.entry_list (running_here c.args.live.now.fabric.settings (slots_of c.args.files.now) c.args.stream c.args.budget (seen c.args.depot.now) c.packets.live c.packets.packets (seen c.packets.depot) c.packets.invariant c.next.new.self (seen c.next.new.depot) c.in-Some.packet r) in
+    let on = c.in-Ok-take.ensures.takes c.args.live.now.fabric.settings (nothing_of_live c.args.live.now.fabric.settings (length c.args.files.now.outs.now)) c.packets.invariant.packets c.packets.invariant.entry_list (running_here c.args.live.now.fabric.settings (slots_of c.args.files.now) c.args.stream c.args.budget (seen c.args.depot.now) c.packets.live c.packets.packets (seen c.packets.depot) c.packets.invariant c.next.new.self (seen c.next.new.depot) c.in-Some.packet r) in
     looping_on c.args.live.now.fabric.settings (slots_of c.args.files.now) c.args.stream c.args.budget (seen c.args.depot.now) c.packets.live c.packets.packets (seen c.packets.depot) c.packets.invariant c.next.new.self (seen c.next.new.depot) c.in-Some.packet r (seen c.take.new.depot) c.take.new.self on.0 c.in-Ok-take.ensures.uses on.2
 
 pub returns-in-Err-take : goal.returns-in-Err-take
@@ -79,5 +80,5 @@ returns-in-Err-take g c =
     record {
       runs =
           refused c.args.live.now.fabric.settings (slots_of c.args.files.now) c.args.stream c.args.budget (seen c.args.depot.now) c.packets.live c.packets.packets (seen c.packets.depot) c.packets.invariant c.next.new.self (seen c.next.new.depot) c.in-Some.packet r (let h = c.if-packet-files.false in omega (arith, h)) (seen c.take.new.depot) c.in-Err-take.fault c.in-Err-take.ensures.uses
-          (c.in-Err-take.ensures.takes c.args.live.now.fabric.settings c.packets.invariant.packets c.packets.invariant.entry_list (running_here c.args.live.now.fabric.settings (slots_of c.args.files.now) c.args.stream c.args.budget (seen c.args.depot.now) c.packets.live c.packets.packets (seen c.packets.depot) c.packets.invariant c.next.new.self (seen c.next.new.depot) c.in-Some.packet r));
+          (c.in-Err-take.ensures.takes c.args.live.now.fabric.settings (nothing_of_live c.args.live.now.fabric.settings (length c.args.files.now.outs.now)) c.packets.invariant.packets c.packets.invariant.entry_list (running_here c.args.live.now.fabric.settings (slots_of c.args.files.now) c.args.stream c.args.budget (seen c.args.depot.now) c.packets.live c.packets.packets (seen c.packets.depot) c.packets.invariant c.next.new.self (seen c.next.new.depot) c.in-Some.packet r));
     }

@@ -29,7 +29,7 @@ follow-requires-clause-running g c κs within =
     let seen = g.D.Depot.seen in
     let l = c.live_of-live.result in
     let is = c.live_of-live.ensures.fabric in
-    running_first c.laws_of_runs.ensures (slots_of c.args.files.now) (seen c.begin.new.depot) l c.in-Ok.ensures.starts.files c.requires.given.width c.requires.ports.1 (ap (λ F. F.count) is ∙ c.requires.count)
+    running_first (slots_of c.args.files.now) (seen c.begin.new.depot) l c.in-Ok.ensures.starts.files c.requires.given.width c.requires.ports.1 (ap (λ F. F.count) is ∙ c.requires.count)
     (subst (λ F. F.state ≡ state_of F.settings []) (sym is) c.requires.state) (ap (λ F. F.events) is ∙ c.requires.nothing.0) (ap (λ F. F.outs) is ∙ c.requires.nothing.1)
     (c.live_of-live.ensures.counts ∙ c.in-Ok.ensures.counts) c.live_of-live.ensures.first c.live_of-live.ensures.greatest c.live_of-live.ensures.frames c.live_of-live.ensures.entries
     (subst (λ p. IsNothing (pending p)) (sym c.live_of-live.ensures.pages) c.in-Ok.ensures.nothing) (ap (λ p. length p.records.items) c.live_of-live.ensures.pages ∙ c.in-Ok.ensures.pages)

@@ -1,5 +1,5 @@
 -- The laws are lemmas.
-use Rattle.fab_policy.proofs.Standing.{stands_new, stands_after, stands_older, due_after, stands_drained, legal_after, grows_by_frames}
+use Rattle.fab_policy.proofs.Standing.{stands_new, stands_after, stands_older, due_after, stands_drained, legal_after}
 use Rattle.fab_policy.proofs.laws.fabric_steps.Goals as goal
 
 pub returns-clause-first : goal.returns-clause-first
@@ -19,6 +19,3 @@ returns-clause-drained c = stands_drained
 
 pub returns-clause-legal : goal.returns-clause-legal
 returns-clause-legal c = legal_after
-
-pub returns-clause-grows : goal.returns-clause-grows
-returns-clause-grows c = grows_by_frames

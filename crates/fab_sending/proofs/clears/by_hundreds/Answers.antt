@@ -1,6 +1,6 @@
 use Rattle.std.proofs.Common.{◌+◌, ◌∷◌, [], ◌++◌, ◌∙◌, ap, arith}
-use Rattle.fab_messages.specs.declared.message.Out.{Out}
-use Rattle.fab_messages.specs.declared.message.OutMessage.TheVariants as out
+use Rattle.fab_sending.specs.declared.message.Out.{Out}
+use Rattle.fab_sending.specs.declared.message.OutMessage.TheVariants as out
 use Rattle.fip_codec.specs.declared.message.VxPort.{VxPort}
 use Rattle.std.proofs.Common.{List}
 use Rattle.fab_sending.proofs.ClearMade.{group_more, groups_done}

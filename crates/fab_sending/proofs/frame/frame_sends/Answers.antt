@@ -1,7 +1,7 @@
 use Rattle.std.proofs.Common.{◌∙◌, ap}
 use Rattle.fab_policy.specs.Classes.{of_settled}
 use Rattle.fab_policy.specs.State.{now_of}
-use Rattle.fab_messages.specs.Laws.{messages}
+use Rattle.fab_sending.specs.MessageLaws.{messages}
 use Rattle.fab_sending.specs.Messages.{at_moment, changes}
 use Rattle.fab_sending.proofs.Joining.{at_clock, settled_tells}
 use Rattle.fab_sending.proofs.frame.frame_sends.Goals as goal

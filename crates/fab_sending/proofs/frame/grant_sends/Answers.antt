@@ -1,5 +1,5 @@
 use Rattle.fab_policy.specs.declared.verdict.Verdict.TheVariants.{Granted}
-use Rattle.fab_messages.specs.Laws.{messages}
+use Rattle.fab_sending.specs.MessageLaws.{messages}
 use Rattle.fab_sending.proofs.Joining.{at_clock}
 use Rattle.fab_sending.proofs.frame.grant_sends.Goals as goal
 

@@ -3,13 +3,13 @@ use Rattle.fab_windows.proofs.laws.laws_of_runs.Goals as goal
 pub returns : goal.returns
 returns c = record {
   followed_by = c.entries_come_in_parts.ensures.followed;
-  sent_by = c.entries_come_in_parts.ensures.sent;
-  text_grows = c.entries_add_to_files.ensures.text;
-  egress_grows = c.entries_add_to_files.ensures.egress;
-  nothing_written = c.entries_add_to_files.ensures.nothing;
+  text_grows = c.later_entries_are_written.ensures.text;
+  records_grow = c.later_entries_are_written.ensures.records;
   nothing_run = c.records_come_later.ensures.nothing;
-  windows_run = c.windows_are_runs.ensures.run;
-  firsts_taken = c.windows_are_runs.ensures.firsts;
+  windows_run = c.runs_go_on.ensures.window;
+  few = c.runs_go_on.ensures.few;
+  early = c.runs_go_on.ensures.early;
+  firsts_taken = c.firsts_are_taken.ensures;
   keeps_before = c.stops_keep_what_is_before.ensures.before;
   keeps_just = c.stops_keep_what_is_before.ensures.just;
   looks_ahead = c.looks_to_come.ensures.ahead;

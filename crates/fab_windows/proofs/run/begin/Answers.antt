@@ -6,6 +6,7 @@ use Rattle.fab_gather.proofs.LeavesLemmas.{takes_none}
 use Rattle.run_files.specs.Faults.{fault_from}
 use Rattle.run_files.specs.Pages.{items_in}
 use Rattle.fab_windows.specs.Files.{Writes}
+use Rattle.fab_windows.specs.From.{nothing_of}
 use Rattle.fab_windows.specs.Turns.{task_of}
 use Rattle.fab_windows.proofs.BeginLemmas.{ended_at_once, ended_heads, ended_looks, begun, inputs_heads}
 use Rattle.fab_windows.proofs.ResultLemmas.{told_on, not_ok}
@@ -31,7 +32,7 @@ first_looks-requires-clause-fresh g c = c.requires.given.fresh
 
 pub returns-in_err-pages-clause-begins : goal.returns-in_err-pages-clause-begins
 returns-in_err-pages-clause-begins g c = λ s.
-    let k = task_of (start_at (g.D.Depot.seen c.args.depot.now) c.args.ins.now c.args.budget.now) s c.args.slots.now.journal c.args.slots.now.outs.now in
+    let k = task_of (start_at (g.D.Depot.seen c.args.depot.now) c.args.ins.now c.args.budget.now) (nothing_of s) s c.args.slots.now.journal c.args.slots.now.outs.now in
     told_on c.from_residual.result fault.Memory _ _ c.from_residual.ensures.1 (ended_at_once c.laws_of_runs.ensures k c.requires.given)
 
 pub returns-in_err-pages-clause-pages : goal.returns-in_err-pages-clause-pages
@@ -46,7 +47,7 @@ returns-in_err-pages-clause-done g c = not_ok c.from_residual.result fault.Memor
 pub returns-in_err-flush-clause-begins : goal.returns-in_err-flush-clause-begins
 returns-in_err-flush-clause-begins g c = λ s.
     let seen = g.D.Depot.seen in
-    let k = task_of (start_at (seen c.args.depot.now) c.args.ins.now c.args.budget.now) s c.args.slots.now.journal c.args.slots.now.outs.now in
+    let k = task_of (start_at (seen c.args.depot.now) c.args.ins.now c.args.budget.now) (nothing_of s) s c.args.slots.now.journal c.args.slots.now.outs.now in
     let pieces = items_in c.in_ok-pages.pages.records.items in
     let w = c.in_err-flush.ensures in
     told_on c.from_residual-in_err-flush.result fault.Write _ _ (subst (λ x. IsErrAnd c.from_residual-in_err-flush.result (λ y. y ≡ x)) w.fault c.from_residual-in_err-flush.ensures.1)
@@ -65,7 +66,7 @@ returns-in_err-flush-clause-nothing g c = not_ok c.from_residual-in_err-flush.re
 pub returns-in_err-shelves-clause-begins : goal.returns-in_err-shelves-clause-begins
 returns-in_err-shelves-clause-begins g c = λ s.
     let seen = g.D.Depot.seen in
-    let k = task_of (start_at (seen c.args.depot.now) c.args.ins.now c.args.budget.now) s c.args.slots.now.journal c.args.slots.now.outs.now in
+    let k = task_of (start_at (seen c.args.depot.now) c.args.ins.now c.args.budget.now) (nothing_of s) s c.args.slots.now.journal c.args.slots.now.outs.now in
     let pieces = items_in c.in_ok-pages.pages.records.items in
     let e = c.in_err-shelves.field-0.0 in
     told_on c.from_residual-in_err-shelves.result (fault_from e) _ _ c.from_residual-in_err-shelves.ensures.1
@@ -85,7 +86,7 @@ returns-in_err-shelves-clause-done g c = not_ok c.from_residual-in_err-shelves.r
 pub returns-clause-begins : goal.returns-clause-begins
 returns-clause-begins g c = λ s.
     let seen = g.D.Depot.seen in
-    let k = task_of (start_at (seen c.args.depot.now) c.args.ins.now c.args.budget.now) s c.args.slots.now.journal c.args.slots.now.outs.now in
+    let k = task_of (start_at (seen c.args.depot.now) c.args.ins.now c.args.budget.now) (nothing_of s) s c.args.slots.now.journal c.args.slots.now.outs.now in
     let pieces = items_in c.in_ok-pages.pages.records.items in
     begun c.laws_of_runs.ensures k c.requires.given pieces c.in_ok-pages.ensures.records (seen c.flush.new.depot)
     (subst (λ l. Writes c.args.slots.now.journal c.args.slots.now.outs.now l pieces (seen c.args.depot.now) (seen c.flush.new.depot) (Ok tt)) c.in_ok-pages.ensures.lines c.in_ok-flush.ensures.writes)

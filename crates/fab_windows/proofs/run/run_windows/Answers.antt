@@ -1,9 +1,12 @@
-use Rattle.std.proofs.Common.{◌∙◌, ◌+◌, ◌%◌, ◌^◌, ℕ, Some, None, refl, sym, ap, subst}
+use Rattle.std.proofs.Common.{◌∙◌, ◌+◌, ◌%◌, ◌^◌, ◌<◌, ℕ, Some, None, IfSome, Err, refl, sym, ap, subst}
 use Rattle.fab_config.specs.Settings.{Settings}
 use Rattle.fab_gather.proofs.ClockLemmas.{nearer}
 use Rattle.fab_gather.proofs.LeavesLemmas.{takes_then}
 use Rattle.fab_windows.specs.Pages.{pending}
+use Rattle.fab_policy.specs.Outputs.{State}
+use Rattle.fab_windows.specs.From.{nothing_of}
 use Rattle.fab_windows.specs.Run.{Runs}
+use Rattle.fab_windows.proofs.FromNothingLemmas.{runs_are}
 use Rattle.fab_windows.specs.Turns.{task_of, Going, Ended}
 use Rattle.fab_windows.proofs.BeginLemmas.{going_first, going_next, next_early, next_as, ended_by}
 use Rattle.fab_windows.proofs.TurnLemmas.{files_now}
@@ -27,7 +30,8 @@ returns-in_err-run g c =
     let seen = g.D.Depot.seen in
     record {
       runs = subst (λ r. Runs c.args.fabric.settings (start_at (seen c.args.depot.now) c.args.ins.now c.args.budget.now) (seen c.begin.new.depot) (file_slots c.args.journal c.args.outs.now) r)
-          (err_is c.from_residual.result c.in_err-run.field-0.0 c.from_residual.ensures.1) (c.in_err-run.ensures.begins c.args.fabric.settings);
+          (err_is c.from_residual.result c.in_err-run.field-0.0 c.from_residual.ensures.1)
+          (runs_are c.args.fabric.settings (start_at (seen c.args.depot.now) c.args.ins.now c.args.budget.now) (seen c.begin.new.depot) (file_slots c.args.journal c.args.outs.now) (Err c.in_err-run.field-0.0) (c.in_err-run.ensures.begins c.args.fabric.settings));
       takes = c.in_err-run.ensures.takes;
     }
 
@@ -35,14 +39,14 @@ pub windows-init : goal.windows-init
 windows-init g c =
     let seen = g.D.Depot.seen in
     let s : Start = start_at (seen c.args.depot.now) c.args.ins.now c.args.budget.now in
-    let k = task_of s c.args.fabric.settings c.args.journal c.args.outs.now in
+    let k = task_of s (nothing_of c.args.fabric.settings) c.args.fabric.settings c.args.journal c.args.outs.now in
     let shelves = c.in_ok-run.run'.shelves.items in
     let next = next_as c.config.result.now c.args.fabric.settings c.deref.result.now shelves c.next_window.result c.config.ensures c.deref.ensures.value c.next_window.ensures.least in
     record {
       v = 0;
       going = subst (λ (f : ℕ). Going k 0 f c.args.fabric (walk_at (seen c.begin.new.depot) c.begin.new.ins shelves c.begin.new.budget) c.in_ok-run.run'.done (pending c.in_ok-run.run'.pages)) (sym c.unwrap_or.ensures)
           (going_first c.laws_of_runs.ensures k (seen c.begin.new.depot) c.begin.new.ins shelves c.begin.new.budget (c.in_ok-run.ensures.begins c.args.fabric.settings) c.args.fabric c.next_window.result c.in_ok-run.run'.done (pending c.in_ok-run.run'.pages) c.in_ok-run.ensures.nothing
-          refl c.requires.count c.requires.state c.requires.nothing.0 c.requires.nothing.1 next c.in_ok-run.ensures.done.0 c.in_ok-run.ensures.done.1);
+          refl c.requires.count c.requires.state (subst (λ (S : State). IfSome S.tables.clock (λ t. t < 0)) (sym c.requires.state) tt) c.requires.nothing.0 c.requires.nothing.1 next c.in_ok-run.ensures.done.0 c.in_ok-run.ensures.done.1);
       settings = refl;
       pages = c.in_ok-run.ensures.pages;
       takes = c.in_ok-run.ensures.takes;
@@ -52,11 +56,12 @@ pub run_window-requires-clause-going : goal.run_window-requires-clause-going
 run_window-requires-clause-going g c = λ κs within.
     let seen = g.D.Depot.seen in
     let s : Start = start_at (seen c.args.depot.now) c.args.ins.now c.args.budget.now in
-    let k = task_of s c.args.fabric.settings c.args.journal c.args.outs.now in
+    let k = task_of s (nothing_of c.args.fabric.settings) c.args.fabric.settings c.args.journal c.args.outs.now in
     let l = c.windows in
     let next = next_as c.config-in-windows.result.now c.args.fabric.settings c.deref-in-windows.result.now l.run.shelves.items (Some c.in-Some.window) (c.config-in-windows.ensures ∙ l.invariant.settings) c.deref-in-windows.ensures.value c.in-Some.ensures.least in (
       s,
-      subst (λ (x : Settings). Going (task_of s x c.args.journal c.args.outs.now) c.in-Some.window l.run.first l.fabric (walk_at (seen l.depot) l.ins l.run.shelves.items l.budget) l.run.done (pending l.run.pages)) (sym l.invariant.settings)
+      nothing_of c.args.fabric.settings,
+      subst (λ (x : Settings). Going (task_of s (nothing_of c.args.fabric.settings) x c.args.journal c.args.outs.now) c.in-Some.window l.run.first l.fabric (walk_at (seen l.depot) l.ins l.run.shelves.items l.budget) l.run.done (pending l.run.pages)) (sym l.invariant.settings)
           (going_next c.laws_of_runs.ensures k l.invariant.v c.in-Some.window l.run.first l.fabric (seen l.depot) l.ins l.run.shelves.items l.budget l.run.done (pending l.run.pages) l.invariant.going next),
     )
 
@@ -71,7 +76,7 @@ pub run_window-requires-clause-range : goal.run_window-requires-clause-range
 run_window-requires-clause-range g c = λ κs within.
     let seen = g.D.Depot.seen in
     let s : Start = start_at (seen c.args.depot.now) c.args.ins.now c.args.budget.now in
-    let k = task_of s c.args.fabric.settings c.args.journal c.args.outs.now in
+    let k = task_of s (nothing_of c.args.fabric.settings) c.args.fabric.settings c.args.journal c.args.outs.now in
     let l = c.windows in
     let next = next_as c.config-in-windows.result.now c.args.fabric.settings c.deref-in-windows.result.now l.run.shelves.items (Some c.in-Some.window) (c.config-in-windows.ensures ∙ l.invariant.settings) c.deref-in-windows.ensures.value c.in-Some.ensures.least in
     next_early c.laws_of_runs.ensures k l.invariant.v c.in-Some.window l.run.first l.fabric (seen l.depot) l.ins l.run.shelves.items l.budget l.run.done (pending l.run.pages) l.invariant.going next
@@ -83,16 +88,17 @@ pub returns-in_err-fabric : goal.returns-in_err-fabric
 returns-in_err-fabric g c =
     let seen = g.D.Depot.seen in
     let s : Start = start_at (seen c.args.depot.now) c.args.ins.now c.args.budget.now in
-    let k = task_of s c.args.fabric.settings c.args.journal c.args.outs.now in
+    let k = task_of s (nothing_of c.args.fabric.settings) c.args.fabric.settings c.args.journal c.args.outs.now in
     let l = c.windows in
     let e = c.in_err-fabric.field-0.0 in
     let next = next_as c.config-in-windows.result.now c.args.fabric.settings c.deref-in-windows.result.now l.run.shelves.items (Some c.in-Some.window) (c.config-in-windows.ensures ∙ l.invariant.settings) c.deref-in-windows.ensures.value c.in-Some.ensures.least in
-    let going = subst (λ (x : Settings). Going (task_of s x c.args.journal c.args.outs.now) c.in-Some.window l.run.first l.fabric (walk_at (seen l.depot) l.ins l.run.shelves.items l.budget) l.run.done (pending l.run.pages)) (sym l.invariant.settings)
+    let going = subst (λ (x : Settings). Going (task_of s (nothing_of c.args.fabric.settings) x c.args.journal c.args.outs.now) c.in-Some.window l.run.first l.fabric (walk_at (seen l.depot) l.ins l.run.shelves.items l.budget) l.run.done (pending l.run.pages)) (sym l.invariant.settings)
     (going_next c.laws_of_runs.ensures k l.invariant.v c.in-Some.window l.run.first l.fabric (seen l.depot) l.ins l.run.shelves.items l.budget l.run.done (pending l.run.pages) l.invariant.going next) in
     record {
       runs = subst (λ r. Runs c.args.fabric.settings (start_at (seen c.args.depot.now) c.args.ins.now c.args.budget.now) (seen c.run_window.new.depot) (file_slots c.args.journal c.args.outs.now) r)
           (err_is c.from_residual-in_err-fabric.result e c.from_residual-in_err-fabric.ensures.1)
-          (subst (λ (x : Settings). Ended (task_of s x c.args.journal c.args.outs.now) (seen c.run_window.new.depot) e) l.invariant.settings (c.in_err-fabric.ensures.runs s going));
+          (runs_are c.args.fabric.settings s (seen c.run_window.new.depot) (file_slots c.args.journal c.args.outs.now) (Err e)
+          (subst (λ (x : Settings). Ended (task_of s (nothing_of c.args.fabric.settings) x c.args.journal c.args.outs.now) (seen c.run_window.new.depot) e) l.invariant.settings (c.in_err-fabric.ensures.runs s (nothing_of c.args.fabric.settings) going)));
       takes = takes_then c.args.ins.now l.ins c.run_window.new.ins c.args.budget.now l.budget c.run_window.new.budget l.invariant.takes c.in_err-fabric.ensures.takes;
     }
 
@@ -100,7 +106,7 @@ pub windows-smaller : goal.windows-smaller
 windows-smaller g c =
     let seen = g.D.Depot.seen in
     let s : Start = start_at (seen c.args.depot.now) c.args.ins.now c.args.budget.now in
-    let k = task_of s c.args.fabric.settings c.args.journal c.args.outs.now in
+    let k = task_of s (nothing_of c.args.fabric.settings) c.args.fabric.settings c.args.journal c.args.outs.now in
     let l = c.windows in
     let next = next_as c.config-in-windows.result.now c.args.fabric.settings c.deref-in-windows.result.now l.run.shelves.items (Some c.in-Some.window) (c.config-in-windows.ensures ∙ l.invariant.settings) c.deref-in-windows.ensures.value c.in-Some.ensures.least in
     let going = going_next c.laws_of_runs.ensures k l.invariant.v c.in-Some.window l.run.first l.fabric (seen l.depot) l.ins l.run.shelves.items l.budget l.run.done (pending l.run.pages) l.invariant.going next in
@@ -111,15 +117,15 @@ pub windows-preserved : goal.windows-preserved
 windows-preserved g c =
     let seen = g.D.Depot.seen in
     let s : Start = start_at (seen c.args.depot.now) c.args.ins.now c.args.budget.now in
-    let k = task_of s c.args.fabric.settings c.args.journal c.args.outs.now in
+    let k = task_of s (nothing_of c.args.fabric.settings) c.args.fabric.settings c.args.journal c.args.outs.now in
     let l = c.windows in
     let next = next_as c.config-in-windows.result.now c.args.fabric.settings c.deref-in-windows.result.now l.run.shelves.items (Some c.in-Some.window) (c.config-in-windows.ensures ∙ l.invariant.settings) c.deref-in-windows.ensures.value c.in-Some.ensures.least in
-    let going = subst (λ (x : Settings). Going (task_of s x c.args.journal c.args.outs.now) c.in-Some.window l.run.first l.fabric (walk_at (seen l.depot) l.ins l.run.shelves.items l.budget) l.run.done (pending l.run.pages)) (sym l.invariant.settings)
+    let going = subst (λ (x : Settings). Going (task_of s (nothing_of c.args.fabric.settings) x c.args.journal c.args.outs.now) c.in-Some.window l.run.first l.fabric (walk_at (seen l.depot) l.ins l.run.shelves.items l.budget) l.run.done (pending l.run.pages)) (sym l.invariant.settings)
     (going_next c.laws_of_runs.ensures k l.invariant.v c.in-Some.window l.run.first l.fabric (seen l.depot) l.ins l.run.shelves.items l.budget l.run.done (pending l.run.pages) l.invariant.going next) in
     record {
       v = c.in-Some.window + 1;
-      going = subst (λ (x : Settings). Going (task_of s x c.args.journal c.args.outs.now) (c.in-Some.window + 1) c.run_window.new.run.first c.in_ok-fabric.fabric (walk_at (seen c.run_window.new.depot) c.run_window.new.ins c.run_window.new.run.shelves.items c.run_window.new.budget) c.run_window.new.run.done (pending c.run_window.new.run.pages)) l.invariant.settings
-          (c.in_ok-fabric.ensures.runs s going);
+      going = subst (λ (x : Settings). Going (task_of s (nothing_of c.args.fabric.settings) x c.args.journal c.args.outs.now) (c.in-Some.window + 1) c.run_window.new.run.first c.in_ok-fabric.fabric (walk_at (seen c.run_window.new.depot) c.run_window.new.ins c.run_window.new.run.shelves.items c.run_window.new.budget) c.run_window.new.run.done (pending c.run_window.new.run.pages)) l.invariant.settings
+          (c.in_ok-fabric.ensures.runs s (nothing_of c.args.fabric.settings) going);
       settings = c.in_ok-fabric.ensures.settings ∙ l.invariant.settings;
       pages = c.in_ok-fabric.ensures.pages;
       takes = takes_then c.args.ins.now l.ins c.run_window.new.ins c.args.budget.now l.budget c.run_window.new.budget l.invariant.takes c.in_ok-fabric.ensures.takes;
@@ -132,7 +138,7 @@ pub finish-requires-clause-files : goal.finish-requires-clause-files
 finish-requires-clause-files g c =
     let seen = g.D.Depot.seen in
     let s : Start = start_at (seen c.args.depot.now) c.args.ins.now c.args.budget.now in
-    let k = task_of s c.args.fabric.settings c.args.journal c.args.outs.now in
+    let k = task_of s (nothing_of c.args.fabric.settings) c.args.fabric.settings c.args.journal c.args.outs.now in
     let l = c.windows in
     files_now c.laws_of_runs.ensures k l.invariant.v l.run.first l.fabric (seen l.depot) l.ins l.run.shelves.items l.budget l.invariant.going.reached
 
@@ -140,10 +146,11 @@ pub returns : goal.returns
 returns g c =
     let seen = g.D.Depot.seen in
     let s : Start = start_at (seen c.args.depot.now) c.args.ins.now c.args.budget.now in
-    let k = task_of s c.args.fabric.settings c.args.journal c.args.outs.now in
+    let k = task_of s (nothing_of c.args.fabric.settings) c.args.fabric.settings c.args.journal c.args.outs.now in
     let l = c.windows in
     let next = next_as c.config-in-windows.result.now c.args.fabric.settings c.deref-in-windows.result.now l.run.shelves.items None (c.config-in-windows.ensures ∙ l.invariant.settings) c.deref-in-windows.ensures.value c.in_default.ensures.least in
     record {
-      runs = ended_by c.laws_of_runs.ensures k l.invariant.v l.run.first l.fabric (seen l.depot) l.ins l.run.shelves.items l.budget l.run.done (pending l.run.pages) l.invariant.going next (seen c.finish.new.depot) c.finish.result c.finish.ensures;
+      runs = runs_are c.args.fabric.settings s (seen c.finish.new.depot) (file_slots c.args.journal c.args.outs.now) c.finish.result
+          (ended_by c.laws_of_runs.ensures k l.invariant.v l.run.first l.fabric (seen l.depot) l.ins l.run.shelves.items l.budget l.run.done (pending l.run.pages) l.invariant.going next (seen c.finish.new.depot) c.finish.result c.finish.ensures);
       takes = l.invariant.takes;
     }

@@ -1,6 +1,7 @@
 use Rattle.std.proofs.Common.{ℕ, ◌≡◌, ◌^◌, length}
 use Rattle.fab_gather.specs.Ports.{TakesFrom, walk_at}
 use Rattle.fab_windows.specs.Pages.{pending}
+use Rattle.fab_windows.specs.From.{nothing_of}
 use Rattle.fab_windows.specs.Turns.{task_of, Going}
 use Rattle.fab_gather.proofs.ClockLemmas.{distance}
 use Rattle.fab_gather.specs.First.{start_at, Start}
@@ -12,7 +13,7 @@ invariant-windows g l =
     let s : Start = start_at (seen l.fn.depot) l.fn.ins l.fn.budget in
     record {
       v : ℕ;
-      going : Going (task_of s l.fn.fabric.settings l.journal l.outs) v l.run.first l.fabric (walk_at (seen l.depot) l.ins l.run.shelves.items l.budget) l.run.done (pending l.run.pages);
+      going : Going (task_of s (nothing_of l.fn.fabric.settings) l.fn.fabric.settings l.journal l.outs) v l.run.first l.fabric (walk_at (seen l.depot) l.ins l.run.shelves.items l.budget) l.run.done (pending l.run.pages);
       settings : l.fabric.settings ≡ l.fn.fabric.settings;
       pages : length l.run.pages.records.items ≡ length l.outs;
       takes : TakesFrom l.fn.ins l.ins l.fn.budget l.budget;

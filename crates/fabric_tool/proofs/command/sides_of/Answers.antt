@@ -1,5 +1,5 @@
 use Rattle.std.proofs.Common.{sym, subst}
-use Rattle.snoop_run.specs.Sides.{AreDifferent}
+use Rattle.side_runs.specs.Sides.{AreDifferent}
 use Rattle.fabric_tool.proofs.SideLemmas.{all_behind, different_sides}
 use Rattle.fabric_tool.proofs.command.sides_of.Goals as goal
 

@@ -1,5 +1,5 @@
 use Rattle.std.proofs.Common.{◌∙◌, ◌++◌, ◌∷◌, [], ℕ, refl, ap, sym, subst, arith}
-use Rattle.bit_rows.specs.Row.{IsNextBit}
+use Rattle.sorted_lists.specs.Row.{IsNextBit}
 use Rattle.ct_messages.specs.Server.{Known}
 use Rattle.name_server.proofs.SeenLemmas.{seen_within, typed_at, typed_known, listed-next, listed-end}
 use Rattle.name_server.proofs.lists.addresses_of_type.Goals as goal

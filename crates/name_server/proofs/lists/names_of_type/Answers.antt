@@ -1,5 +1,5 @@
 use Rattle.std.proofs.Common.{◌∙◌, ◌++◌, ◌∷◌, [], option_map, refl, ap, sym, subst, arith}
-use Rattle.bit_rows.specs.Row.{IsNextBit}
+use Rattle.sorted_lists.specs.Row.{IsNextBit}
 use Rattle.ct_messages.specs.Server.{Known}
 use Rattle.ct_messages.specs.declared.Named.{Named}
 use Rattle.name_server.specs.Registry.{known_port}

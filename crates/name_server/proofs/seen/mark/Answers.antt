@@ -1,5 +1,5 @@
 use Rattle.std.proofs.Common.{◌∙◌, ◌||◌, ap, sym}
-use Rattle.bit_rows.specs.Row.{has}
+use Rattle.sorted_lists.specs.Row.{has}
 use Rattle.name_server.proofs.MarkLemmas.{seen_here, seen_nowhere}
 use Rattle.name_server.proofs.seen.mark.Goals as goal
 

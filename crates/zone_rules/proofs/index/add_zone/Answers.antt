@@ -1,6 +1,6 @@
 use Rattle.std.proofs.Common.{◌∙◌, sym, ap}
 use Rattle.std.specs.Option.{option_copied}
-use Rattle.bit_rows.specs.Row.{has}
+use Rattle.sorted_lists.specs.Row.{has}
 use Rattle.zone_rules.specs.Index.{of_name}
 use Rattle.zone_rules.proofs.JoinLemmas.{row_more}
 use Rattle.zone_rules.proofs.index.add_zone.Goals as goal

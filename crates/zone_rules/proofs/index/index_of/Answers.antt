@@ -1,7 +1,7 @@
 use Rattle.std.proofs.Common.{◌∙◌, ◌==◌, ◌&&◌, ◌||◌, sym, ap, arith}
 use Rattle.std.specs.Option.{option_copied}
 use Rattle.zone_rules.specs.Joined.{contains}
-use Rattle.bit_rows.proofs.RowLemmas.{has-none}
+use Rattle.sorted_lists.proofs.RowLemmas.{has-none}
 use Rattle.zone_rules.proofs.JoinLemmas.{lists_more}
 use Rattle.zone_rules.proofs.index.index_of.Goals as goal
 

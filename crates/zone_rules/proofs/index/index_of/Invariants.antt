@@ -1,5 +1,5 @@
 use Rattle.std.proofs.Common.{◌≡◌, ℕ, take}
-use Rattle.bit_rows.specs.Row.{has}
+use Rattle.sorted_lists.specs.Row.{has}
 use Rattle.zone_rules.specs.Index.{of_name, lists}
 use Rattle.zone_rules.proofs.index.index_of.Given as goal
 

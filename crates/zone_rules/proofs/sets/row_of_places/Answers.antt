@@ -1,8 +1,8 @@
 use Rattle.std.proofs.Common.{◌∙◌, sym, ap, arith}
 use Rattle.std.specs.Option.{option_copied}
-use Rattle.bit_rows.specs.Row.{has}
+use Rattle.sorted_lists.specs.Row.{has}
 use Rattle.zone_rules.proofs.JoinLemmas.{at_some}
-use Rattle.bit_rows.proofs.RowLemmas.{has-none}
+use Rattle.sorted_lists.proofs.RowLemmas.{has-none}
 use Rattle.zone_rules.proofs.SetLemmas.{place_in, place_out}
 use Rattle.zone_rules.proofs.sets.row_of_places.Goals as goal
 use Rattle.zone_rules.proofs.sets.row_of_places.Goals.{then-place-zones+in_ok-set_bit, else-place-zones}

@@ -1,6 +1,6 @@
 use Rattle.std.proofs.Common.{◌∙◌, ◌++◌, ◌-◌, ap, sym, take, drop, length, refl}
 use Rattle.fab_policy.specs.Text.{sent_bytes}
-use Rattle.fab_messages.specs.Message.{bytes_of}
+use Rattle.fab_sending.specs.Message.{bytes_of}
 use Rattle.fab_pages.specs.Pages.{sent_by}
 use Rattle.fab_pages.proofs.PageLemmas.{sent_made}
 use Rattle.fab_pages.proofs.pages.Sendings.write_sent.Goals as goal

@@ -1,7 +1,8 @@
 use Rattle.std.proofs.Common.{is_some, sym, ◌∙◌, ap}
 use Rattle.ct_messages.specs.Ask.{view}
+use Rattle.ct_messages.specs.Server.{after}
 use Rattle.name_server.specs.Registry.{Registrations}
-use Rattle.fab_roster.proofs.Entered.{entered, refusal_here, register_agrees, register_changes}
+use Rattle.fab_roster.proofs.Entered.{entered, refusal_here, values_agree, values_change}
 use Rattle.fab_roster.proofs.Found.{some_found}
 use Rattle.fab_roster.proofs.Served.{none_some}
 use Rattle.fab_roster.proofs.SoundLemmas.{sound_roll}
@@ -17,10 +18,10 @@ unreachable-requires c =
 
 pub invariant_of-self : goal.invariant_of-self
 invariant_of-self c =
-    register_agrees c.self.invariant c.register.new.self c.args.address (view c.args.ask.now) c.in-Ok.ensures.found (ap (λ (r : Registrations). r.room) c.in-Ok.ensures.entries) c.register.ensures.sound
+    values_agree c.self.invariant c.register.new.self c.args.address (λ node v. after node (view c.args.ask.now) v) c.in-Ok.ensures.found (ap (λ (r : Registrations). r.room) c.in-Ok.ensures.entries) c.register.ensures.sound
 
 pub returns-clause-change : goal.returns-clause-change
-returns-clause-change c = register_changes c.self.invariant c.register.new.self c.args.address (view c.args.ask.now) c.in-Ok.ensures.found c.self.view_is
+returns-clause-change c = values_change c.self.invariant c.register.new.self c.args.address (λ node v. after node (view c.args.ask.now) v) c.in-Ok.ensures.found c.self.view_is
 
 pub returns-clause-sound : goal.returns-clause-sound
 returns-clause-sound c = sound_roll (invariant_of-self c)

@@ -1,4 +1,4 @@
-use Rattle.std.proofs.Common.{◌≡◌, ℕ, List, [], ◌∷◌, ◌++◌, sym, ap, ◌∙◌, subst}
+use Rattle.std.proofs.Common.{◌≡◌, ℕ, List, [], ◌∷◌, ◌++◌, sym, ap, ◌∙◌, subst, Option, IsSome}
 use mathlib.Core.List.{IsPrefix}
 use Rattle.fab_policy.specs.Standing.{Contents}
 use Rattle.fab_policy.specs.declared.event.Event.{Event}
@@ -30,7 +30,7 @@ returns-in-Ok-clause-step g c = λ p at.
     let same : c.in-Some.port ≡ p = cc in
     subst (λ (q : ℕ). IsStep (opened c.args.self.now) (Frame q c.args.index caught v) c.args.pass.now c.finish.new.pass) same
     (is_step (opened c.args.self.now) c.turn-locked.result.fabric c.step.new.self c.in-Some.port c.args.index caught v c.args.pass.now c.turn-locked.new.pass c.finish.new.pass
-    turn.grown c.in-Ok.ensures.takes c.in-Ok.ensures.journal turn.seen turn.own c.finish.ensures.seen
+    turn.grown c.in-Ok.ensures.takes (subst (λ (o : Option ℕ). IsSome o) (sym turn.grown.clock) c.requires.clock, c.in-Ok.ensures.right) turn.seen turn.own c.finish.ensures.seen
     (c.finish.ensures.own e
     (frames_taken c.turn-locked.result.fabric c.step.new.self c.in-Some.port c.args.index caught v c.in-Ok.ensures.takes ∙ ap (λ (l : List Event). l ++ e ∷ []) turn.history)))
 

@@ -1,6 +1,6 @@
 use Rattle.std.proofs.Common.{[], ◌∷◌, ◌++◌, sym, subst}
 use Rattle.fab_policy.specs.declared.event.Event.{Event}
-use Rattle.fab_messages.specs.Message.{AreSendable}
+use Rattle.fab_sending.specs.Message.{AreSendable}
 use Rattle.forward_core.specs.Arrived.{entry_of}
 use Rattle.forward_core.proofs.TakeLemmas.{frame_there}
 use Rattle.forward_core.proofs.fabric.Fabric.keep_frame.Goals as goal

@@ -1,5 +1,5 @@
 use Rattle.std.proofs.Common.{None, map, ap}
-use Rattle.fab_messages.specs.Message.{sent_of}
+use Rattle.fab_sending.specs.Message.{sent_of}
 use Rattle.fab_roster.specs.Roll.{Roll}
 use Rattle.forward_core.proofs.NewLemmas.{empty_stands, empty_state}
 use Rattle.forward_core.proofs.fabric.Fabric.new.Goals as goal

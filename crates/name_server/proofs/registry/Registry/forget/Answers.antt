@@ -2,7 +2,7 @@ use Rattle.std.proofs.Common.{◌≡◌, ◌∙◌, ℕ, refl, ◌<◌, ◌==◌
 use Rattle.std.specs.Vec.{vec_capacity}
 use Rattle.fab_base.specs.Keyed as spec
 use Rattle.fab_base.proofs.KeyedLemmas as keyed
-use Rattle.bit_rows.specs.Row.{has}
+use Rattle.sorted_lists.specs.Row.{has}
 use Rattle.ct_messages.specs.Answer.{has_type}
 use Rattle.ct_messages.specs.Server.{NO_TYPES}
 use Rattle.name_server.specs.Registry.{address_of, entry_at, without}

@@ -1,7 +1,7 @@
 use Rattle.std.proofs.Common.{◌≡◌, ◌∙◌, ◌||◌, Some, slice_get, ap, sym, subst, arith}
 use Rattle.std.specs.Option.{option_copied}
 use Rattle.slab.specs.Slab.{get}
-use Rattle.bit_rows.specs.Row.{has, IsNextBit}
+use Rattle.sorted_lists.specs.Row.{has, IsNextBit}
 use Rattle.name_server.specs.Places.{row_of}
 use Rattle.name_server.specs.Views.{is_at}
 use Rattle.name_server.proofs.PlaceLemmas.{held}

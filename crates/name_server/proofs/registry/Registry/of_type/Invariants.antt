@@ -1,5 +1,5 @@
 use Rattle.std.proofs.Common.{◌≡◌, ◌+◌, ◌-◌, ◌*◌, ◌/◌, ℕ, length, slice_get}
-use Rattle.bit_rows.specs.Row.{has}
+use Rattle.sorted_lists.specs.Row.{has}
 use Rattle.name_server.specs.Places.{row_of}
 use Rattle.name_server.proofs.TypedLemmas.{seen_place, is_before}
 use Rattle.name_server.proofs.registry.Registry.of_type.Given as goal

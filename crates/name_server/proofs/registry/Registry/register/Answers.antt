@@ -4,7 +4,7 @@ use Rattle.slab.specs.Slab.{Updates, with_value}
 use Rattle.slab.proofs.SlabLemmas.{Updates-with_value}
 use Rattle.fab_base.specs.Keyed as spec
 use Rattle.fab_base.proofs.KeyedLemmas as keyed
-use Rattle.bit_rows.specs.Row.{has}
+use Rattle.sorted_lists.specs.Row.{has}
 use Rattle.sorted_lists.proofs.IndexLemmas.{none_some, some_same}
 use Rattle.ct_messages.specs.Answer.{has_type}
 use Rattle.ct_messages.specs.Ask.{view}

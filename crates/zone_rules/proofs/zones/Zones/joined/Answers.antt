@@ -1,6 +1,6 @@
 use Rattle.std.proofs.Common.{ℕ, ◌∙◌, sym, ap, None, Some}
 use Rattle.zone_rules.specs.Joined.{joined}
-use Rattle.bit_rows.specs.Row.{has}
+use Rattle.sorted_lists.specs.Row.{has}
 use Rattle.zone_rules.specs.Rules.{ZoneRules}
 use Rattle.zone_rules.proofs.JoinLemmas.{joined_same, joined_is}
 use Rattle.zone_rules.proofs.SetLemmas.{has-active}

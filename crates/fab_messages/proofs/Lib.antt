@@ -1,4 +1,0 @@
-pub mod Keeping
-pub mod Replying
-pub mod FipLemmas
-pub mod Going

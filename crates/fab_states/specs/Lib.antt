@@ -1,0 +1,5 @@
+pub mod States
+pub mod Runs
+pub mod Written
+pub mod Went
+pub mod Laws

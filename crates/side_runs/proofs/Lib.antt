@@ -1,0 +1,13 @@
+pub mod SpanLemmas
+pub mod PageLemmas
+pub mod NextLemmas
+pub mod StepLemmas
+pub mod CopyLemmas
+pub mod CrossLemmas
+pub mod NameLemmas
+pub mod InputLemmas
+pub mod PortLoops
+pub mod RunLemmas
+pub mod TakenLemmas
+pub mod CourseLemmas
+pub mod FileLemmas

@@ -1,0 +1,11 @@
+pub mod Sides
+pub mod Records
+pub mod Copies
+pub mod Crossing
+pub mod Bridged
+pub mod Opening
+pub mod State
+pub mod Laws
+pub mod Course
+pub mod NodeFiles
+pub mod NodeSteps

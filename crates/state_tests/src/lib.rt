@@ -1,0 +1,5 @@
+//! Tests of the text of a seam, over its bytes.
+#![tactic(auto)]
+
+#[cfg(test)]
+mod seams;

@@ -1,0 +1,307 @@
+//! The command over real files, and with memory that is refused.
+use crate::inputs::{CONFIG, words_in};
+use fab_base::{Depot, MemSink, word_at};
+use fabric_tool::Outcome;
+use std::alloc::{AllocGlobal, Global};
+use std::env::FillError;
+use std::os::unix::fs::symlink;
+use std::process::Abort;
+use std::rt::{Env, Files};
+use std::sync::Wait;
+use std::test::Fail;
+use std::thread::Threads;
+use std::{env, fs};
+use tool_process::{FileDepot, Spot, standard_output, status_of_process, words_of};
+
+// A VLAN request of 00:1b:21:00:00:0a to All-FCF-MACs at 1000 ms.
+const REQUEST: [u8; 100] = [
+    0xd4, 0xc3, 0xb2, 0xa1, 2, 0, 4, 0, 0, 0, 0, 0, 0, 0, 0, 0, 255, 255, 0, 0, 1, 0, 0, 0, //
+    1, 0, 0, 0, 0, 0, 0, 0, 60, 0, 0, 0, 60, 0, 0, 0, //
+    0x01, 0x10, 0x18, 0x01, 0x00, 0x02, 0x00, 0x1b, 0x21, 0x00, 0x00, 0x0a, 0x89, 0x14, //
+    0x10, 0, 0x00, 0x04, 0, 0x01, 0, 2, 0, 0, 2, 2, 0x00, 0x1b, 0x21, 0x00, 0x00, 0x0a, //
+    0, 0, 0, 0, 0, 0, 0, 0, 0, 0, 0, 0, 0, 0, 0, 0, 0, 0, 0, 0, 0, 0, 0, 0, 0, 0, 0, 0,
+];
+
+// Its answer: a VLAN notification of VLAN 100 from 00:05:1e:00:00:02.
+const NOTIFICATION: [u8; 100] = [
+    0xd4, 0xc3, 0xb2, 0xa1, 2, 0, 4, 0, 0, 0, 0, 0, 0, 0, 0, 0, 255, 255, 0, 0, 1, 0, 0, 0, //
+    1, 0, 0, 0, 0, 0, 0, 0, 60, 0, 0, 0, 60, 0, 0, 0, //
+    0x00, 0x1b, 0x21, 0x00, 0x00, 0x0a, 0x00, 0x05, 0x1e, 0x00, 0x00, 0x02, 0x89, 0x14, //
+    0x10, 0, 0x00, 0x04, 0, 0x02, 0, 3, 0, 0, 2, 2, 0x00, 0x05, 0x1e, 0x00, 0x00, 0x02, 14, 1, 0,
+    100, //
+    0, 0, 0, 0, 0, 0, 0, 0, 0, 0, 0, 0, 0, 0, 0, 0, 0, 0, 0, 0, 0, 0, 0, 0,
+];
+
+const ONE_PORT: [&str; 5] = ["run", "K", "J", "IN", "OUT"];
+
+const TWO_PORTS: [&str; 7] = ["run", "K", "J", "IN", "OUT", "IN2", "OUT2"];
+
+// Runs a command over real files, which prints this line and answers this status.
+fn ends<R: Threads + Wait + Sync + Files + Abort>(
+    rt: &R,
+    alloc: Global,
+    words: &[&str],
+    line: &[u8],
+    wanted: u8,
+) -> Result<(), Fail> {
+    ends_beside(rt, alloc, words, &Spot::Other, (line, wanted))
+}
+
+// The same where the standard output leads to this spot.
+fn ends_beside<R: Threads + Wait + Sync + Files + Abort>(
+    rt: &R,
+    alloc: Global,
+    words: &[&str],
+    printed: &Spot,
+    wanted: (&[u8], u8),
+) -> Result<(), Fail> {
+    let words = words_in(alloc, words)?;
+    let mut say = MemSink::new(alloc, 100)?;
+    let mut depot = FileDepot::new(rt, alloc, &words, printed)?;
+    let status = status_of_process(rt, alloc, &words, &mut depot, &mut say);
+    assert_eq!(rt; say.content(), wanted.0);
+    assert_eq!(rt; status, wanted.1);
+    Ok(())
+}
+
+#[test]
+fn real_files(rt: HostRuntime) -> Result<(), Fail> {
+    let alloc = rt.alloc();
+    fs::write(&rt, "K", &CONFIG)?;
+    fs::write(&rt, "IN", &REQUEST)?;
+    // What stands in the outputs before is no part of them afterwards, though it is longer.
+    let before = Vec::from_elem(alloc, 0u8, 200)?;
+    fs::write(&rt, "J", &before)?;
+    fs::write(&rt, "OUT", &before)?;
+    ends(&rt, alloc, &ONE_PORT, b"frames 1 entries 2\n", 0)?;
+    let (journal, capture) = (b"journal 2\n1000 tick\n1000 1 0 vlans\n", NOTIFICATION);
+    assert_eq!(rt; fs::read(&rt, "J")?.as_slice(), journal.as_slice());
+    assert_eq!(rt; fs::read(&rt, "OUT")?.as_slice(), capture.as_slice());
+    Ok(())
+}
+
+#[test]
+fn statuses_of_a_process(rt: HostRuntime) -> Result<(), Fail> {
+    let alloc = rt.alloc();
+    // Names of its own, since all tests write into one folder.
+    fs::write(&rt, "FAULTY", b"fcf-mac 00:05:1e:00:00:02\nvlan 5000\n")?;
+    let rows: [(&[&str], &[u8], u8); 3] = [
+        (
+            &["run", "FAULTY", "NONE", "IN", "OUT"],
+            b"config 2 value\n",
+            1,
+        ),
+        (&["run", "K", "J", "IN", "IN"], b"words\n", 2),
+        (&["run", "MISSING", "NONE", "IN", "OUT"], b"read fault\n", 3),
+    ];
+    for (words, line, wanted) in rows {
+        ends(&rt, alloc, words, line, wanted)?;
+    }
+    assert!(rt; !fs::exists(&rt, "NONE")?);
+    Ok(())
+}
+
+// A process that was started with these words.
+#[derive(Drop)]
+struct Started<'a> {
+    words: &'a [&'a [u8]],
+}
+
+impl Env for Started<'_> {
+    fn arg(&self, i: usize, buf: &mut [u8]) -> Result<usize, FillError> {
+        let Some(word) = self.words.get(i) else {
+            return Err(FillError::NotPresent);
+        };
+        let Some(room) = buf.get_mut(..word.len()) else {
+            return Err(FillError::TooLong);
+        };
+        room.copy_from_slice(word);
+        Ok(word.len())
+    }
+
+    fn var(&self, _name: &str, _buf: &mut [u8]) -> Result<usize, FillError> {
+        Err(FillError::NotPresent)
+    }
+
+    fn var_at(&self, _i: usize, _buf: &mut [u8]) -> Result<usize, FillError> {
+        Err(FillError::NotPresent)
+    }
+}
+
+// All words behind the first come, however many there are, and one that isn't UTF-8 is no word.
+#[test]
+fn words_of_a_process(rt: HostRuntime) -> Result<(), Fail> {
+    let alloc = rt.alloc();
+    let mut words: Vec<&[u8]> = Vec::new(alloc);
+    for _ in 0..200 {
+        words.push(b"K")?;
+    }
+    let started = Started { words: &words };
+    let told = words_of(&(started, alloc)).ok().ok_or("words")?;
+    assert_eq!(rt; told.len(), 199);
+    words.push(b"\xff")?;
+    let faulty = Started { words: &words };
+    let told = words_of(&(faulty, alloc));
+    assert!(rt; matches!(told, Err(Outcome::Words)));
+    Ok(())
+}
+
+// What a command prints goes where this test's own output goes, and no file of the command may.
+#[test]
+fn the_standard_output_is_no_output(rt: HostRuntime) -> Result<(), Fail> {
+    fs::write(&rt, "PLAIN", &CONFIG)?;
+    fs::write(&rt, "HEARD", &REQUEST)?;
+    let words = ["run", "PLAIN", "UNMADE", "HEARD", "/dev/stdout"];
+    let printed = standard_output(&rt);
+    ends_beside(&rt, rt.alloc(), &words, &printed, (b"write fault\n", 4))?;
+    assert!(rt; !fs::exists(&rt, "UNMADE")?);
+    Ok(())
+}
+
+// A pcapng file without packets: a section header of version 1.0 and unknown length.
+const SECTION: [u8; 28] = [
+    10, 13, 13, 10, 28, 0, 0, 0, 0x4d, 0x3c, 0x2b, 0x1a, 1, 0, 0, 0, //
+    255, 255, 255, 255, 255, 255, 255, 255, 28, 0, 0, 0,
+];
+
+// A command over two names of one file opens no output, and the file is as it was.
+fn is_kept<R: Threads + Wait + Sync + Files + AllocGlobal + Abort>(
+    rt: &R,
+    words: &[&str],
+    bytes: &[u8],
+) -> Result<(), Fail> {
+    fs::write(rt, "TWICE", bytes)?;
+    ends(rt, rt.alloc(), words, b"write fault\n", 4)?;
+    assert_eq!(rt; fs::read(rt, "TWICE")?.as_slice(), bytes);
+    assert!(rt; !fs::exists(rt, "NEW")?);
+    Ok(())
+}
+
+// The commands over TWICE and another name of it.
+fn commands_keep_it<R: Threads + Wait + Sync + Files + AllocGlobal + Abort>(
+    rt: &R,
+    other: &str,
+) -> Result<(), Fail> {
+    let load = [
+        "make", "1", "NEW", "1", "TWICE", "3", "4", other, "6", "7", "8",
+    ];
+    is_kept(rt, &["run", "SET", "NEW", "TWICE", other], &REQUEST)?;
+    is_kept(rt, &["run", "SET", other, "TWICE", "NEW"], &REQUEST)?;
+    is_kept(rt, &["run", "TWICE", "NEW", "ASKED", other], &CONFIG)?;
+    is_kept(rt, &["convert", "TWICE", other], &SECTION)?;
+    is_kept(rt, &["migrate", "TWICE", other], b"")?;
+    is_kept(rt, &load, &REQUEST)
+}
+
+// The names are of this test's own, since all tests write into one folder.
+#[test]
+fn two_names_of_one_file(rt: HostRuntime) -> Result<(), Fail> {
+    fs::write(&rt, "SET", &CONFIG)?;
+    fs::write(&rt, "ASKED", &REQUEST)?;
+    fs::write(&rt, "TWICE", b"")?;
+    fs::create_dir_all(&rt, "folder")?;
+    symlink(&rt, "TWICE", "SOFT")?;
+    fs::hard_link(&rt, "TWICE", "HARD")?;
+    let absolute = env::current_dir(&rt)?.join(rt.alloc(), "TWICE")?;
+    for other in [
+        "./TWICE",
+        absolute.as_str(),
+        "folder/../TWICE",
+        "SOFT",
+        "HARD",
+    ] {
+        commands_keep_it(&rt, other)?;
+    }
+    // a file that isn't there yet
+    is_kept(
+        &rt,
+        &["run", "SET", "NEW", "TWICE", "folder/../NEW"],
+        &REQUEST,
+    )?;
+    // a link that leads to it, through another folder and another link
+    symlink(&rt, "folder/NEXT", "LINK")?;
+    symlink(&rt, "../NEW", "folder/NEXT")?;
+    is_kept(&rt, &["run", "SET", "LINK", "TWICE", "NEW"], &REQUEST)?;
+    // a device may stand twice
+    let words = ["run", "SET", "/dev/null", "ASKED", "/dev/./null"];
+    ends(&rt, rt.alloc(), &words, b"frames 1 entries 2\n", 0)
+}
+
+// Holds whichever allocation is refused (`rt try --test --fail-alloc N`): an output is as it was
+// until the first byte is written.
+#[test]
+fn no_file_is_emptied_before_a_byte_comes(rt: HostRuntime) -> Result<(), Fail> {
+    let alloc = rt.alloc();
+    fs::write(&rt, "FIRST", b"before")?;
+    fs::write(&rt, "SECOND", b"before")?;
+    let Ok(words) = words_in(alloc, &["run", "FIRST", "SECOND"]) else {
+        return Ok(());
+    };
+    assert_eq!(rt; words.len(), 3);
+    let Ok(mut depot) = FileDepot::new(&rt, alloc, &words, &Spot::Other) else {
+        return Ok(());
+    };
+    let Ok(first) = depot.open_out(word_at(&words, 1)) else {
+        return Ok(());
+    };
+    let opened = depot.open_out(word_at(&words, 2)).is_ok();
+    are(&rt, ["before", "before"])?;
+    if depot.put(first, b"after").is_err() {
+        return Ok(());
+    }
+    are(&rt, ["after", if opened { "" } else { "before" }])
+}
+
+// What FIRST and SECOND hold; memory to read them may be refused.
+fn are<R: Files + AllocGlobal + Abort>(rt: &R, texts: [&str; 2]) -> Result<(), Fail> {
+    let names = ["FIRST", "SECOND"];
+    for place in 0..2 {
+        let Ok(text) = fs::read(rt, names[place]) else {
+            return Ok(());
+        };
+        assert_eq!(rt; text.as_slice(), texts[place].as_bytes());
+    }
+    Ok(())
+}
+
+// The same of a whole run over two ports: each output is as it was, or holds a prefix of the whole.
+#[test]
+fn outputs_are_as_they_were_or_fronts(rt: HostRuntime) -> Result<(), Fail> {
+    let alloc = rt.alloc();
+    fs::write(&rt, "K", &CONFIG)?;
+    fs::write(&rt, "IN", &REQUEST)?;
+    // The second port's request comes in a later window, at 2000.
+    let (mut later, mut answer) = (REQUEST, NOTIFICATION);
+    later[24] = 2;
+    answer[24] = 2;
+    fs::write(&rt, "IN2", &later)?;
+    for name in ["J", "OUT", "OUT2"] {
+        fs::write(&rt, name, b"before")?;
+    }
+    let Ok(words) = words_in(alloc, &TWO_PORTS) else {
+        return Ok(());
+    };
+    let Ok(mut say) = MemSink::new(alloc, 100) else {
+        return Ok(());
+    };
+    let Ok(mut depot) = FileDepot::new(&rt, alloc, &words, &Spot::Other) else {
+        return Ok(());
+    };
+    status_of_process(&rt, alloc, &words, &mut depot, &mut say);
+    let (journal, capture) = (
+        b"journal 2\n1000 tick\n1000 1 0 vlans\n2000 tick\n2000 2 0 vlans\n",
+        NOTIFICATION,
+    );
+    let files = [
+        ("J", journal.as_slice()),
+        ("OUT", capture.as_slice()),
+        ("OUT2", answer.as_slice()),
+    ];
+    for (name, whole) in files {
+        let Ok(text) = fs::read(&rt, name) else {
+            return Ok(());
+        };
+        assert!(rt; text.as_slice() == b"before".as_slice() || whole.starts_with(&text));
+    }
+    Ok(())
+}

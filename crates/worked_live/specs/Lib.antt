@@ -1,3 +1,0 @@
-pub mod Packets
-pub mod Silent
-pub mod Streams
