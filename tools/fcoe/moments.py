@@ -5,22 +5,26 @@ from datetime import datetime, timedelta, timezone
 from typing import Optional
 
 from .errors import Refused
+from .numerals import shortened, wanted
 
 DAY = 86_400_000
+FIRST_DATE, LAST_DATE = 10**11, 253_402_300_799_999  # milliseconds: before is a capture that was made, not recorded; behind is no date
+SECONDS = re.compile(r"[0-9]{1,9}|[0-9]{0,9}\.[0-9]{1,9}")
+BEHIND = re.compile(r"\+([0-9]{1,12}(?:\.[0-9]{1,9})?)")
 
 
 def stamp(clock: Optional[int]) -> str:
     """Milliseconds since 1970 as a date and time, in UTC."""
     if clock is None:
         return "-"
-    if clock < 10**11:
-        return f"{clock / 1000:.3f} s"  # no date: a capture that was made, not recorded
+    if not FIRST_DATE <= clock <= LAST_DATE:
+        return f"{clock / 1000:.3f} s"
     return (datetime(1970, 1, 1, tzinfo=timezone.utc) + timedelta(milliseconds=clock)).strftime("%Y-%m-%d %H:%M:%S.%f")[:-3]
 
 
 def short(clock: Optional[int], first: int) -> str:
     """The time of day, where the date is said elsewhere."""
-    return stamp(clock) if clock is None or clock < 10**11 or clock // DAY != first // DAY else stamp(clock)[11:]
+    return stamp(clock) if clock is None or not FIRST_DATE <= clock <= LAST_DATE or clock // DAY != first // DAY else stamp(clock)[11:]
 
 
 @dataclass
@@ -31,7 +35,7 @@ class Part:
     end: Optional[str] = None
 
     def clock(self, option: str, word: str, first: int) -> float:
-        if re.fullmatch(r"\d{1,9}|\d*\.\d+", word):
+        if SECONDS.fullmatch(word):
             return first + 1000 * float(word)
         return moment_of(word, first, option)
 
@@ -43,15 +47,15 @@ class Part:
 
 def moment_of(word: str, first: int, option: str = "--at") -> int:
     """Milliseconds since 1970, of a word: `+S` seconds behind the first frame, a date and time, a time of its day, or milliseconds."""
-    if re.fullmatch(r"\+\d+(\.\d+)?", word):
-        return first + int(float(word[1:]) * 1000)
-    if re.fullmatch(r"\d+", word):
-        return int(word)
+    if behind := BEHIND.fullmatch(word):
+        return first + int(float(behind[1]) * 1000)
+    if word.isdecimal():
+        return wanted(word, option, 0, LAST_DATE)
     text = word.replace("T", " ").rstrip("Z")
-    if re.fullmatch(r"\d\d:\d\d:\d\d(\.\d+)?", text):
+    if re.fullmatch(r"[0-9]{2}:[0-9]{2}:[0-9]{2}(\.[0-9]{1,9})?", text):
         text = f"{stamp(first)[:10]} {text}"
     try:
         found = datetime.fromisoformat(text.strip()).replace(tzinfo=timezone.utc)
-    except ValueError:
-        raise Refused(f"{option} {word}: wants +SECONDS after the first frame, a date and time (UTC), or milliseconds as the journal has them") from None
+    except (ValueError, OverflowError):
+        raise Refused(f"{option} {shortened(word)}: wants +SECONDS after the first frame, a date and time (UTC), or milliseconds as the journal has them") from None
     return int(found.timestamp() * 1000)

@@ -5,6 +5,8 @@ import sys
 import textwrap
 from enum import Enum
 
+from .printing import Shown, own
+
 
 class Colour(Enum):
     """Colours by their meaning, as a terminal takes them."""
@@ -22,9 +24,9 @@ def is_terminal() -> bool:
 
 def painted(text: str, colour: Colour) -> str:
     """In colour on a terminal; elsewhere, and where NO_COLOR is set, as it is."""
-    if not is_terminal() or os.environ.get("NO_COLOR") or os.environ.get("TERM") == "dumb":
+    if not is_terminal() or not isinstance(sys.stdout, Shown) or os.environ.get("NO_COLOR") or os.environ.get("TERM") == "dumb":
         return text
-    return f"\x1b[{colour.value}m{text}\x1b[0m"
+    return own(f"[{colour.value}m") + text + own("[0m")
 
 
 def width() -> int:

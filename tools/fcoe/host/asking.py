@@ -2,7 +2,7 @@
 from dataclasses import dataclass
 from typing import Callable
 
-from ..frames import Heard
+from ..frames.heard import Heard
 
 ANSWERED = 20.0  # seconds that a link service has: 2 x R_A_TOV (FC-LS-2)
 Answered = Callable[[Heard], None]

@@ -3,7 +3,7 @@ import time
 from dataclasses import dataclass, field
 from typing import Callable, Optional
 
-from ..frames import ADVERTISE, ALL_ENODES, ALL_FCFS, CLEAR, LOGIN_REPLY, VLAN_TELL, Heard, colons, granted_in, hear, number
+from ..frames.heard import ADVERTISE, ALL_ENODES, ALL_FCFS, CLEAR, LOGIN_REPLY, VLAN_TELL, Heard, colons, granted_in, hear, number
 from .nport import NPort
 from .speech import FCOE_SIZE, FDISC, FLOGI, FP, Names, fabric_login, fabric_logout, keep_alive, port_keep_alive, solicitation, three, vlan_request
 from .timers import Timers
@@ -71,6 +71,7 @@ class ENode:
         self.timers = Timers(time.monotonic)
         self.stand = Stand()
         self.ports: list[NPort] = []
+        self.port_type: type[NPort] = NPort  # of what its logins become
         self.wishes: list[Wish] = []
         self.last_ox_id = 0
         self.is_mute = False  # sends no keep alives any more
@@ -243,7 +244,7 @@ class ENode:
         self.wishes.remove(wish)
         if self.has("fc-map"):
             mac = FIRST_MAP + three(address)
-        port = NPort(self, address, mac, (wish.port, wish.node), wish.command)
+        port = self.port_type(self, address, mac, (wish.port, wish.node), wish.command)
         self.ports.append(port)
         self.tell(f"up {address:06x} {colons(mac)} {colons(wish.port)}")
         if wish.command == FLOGI:

@@ -4,7 +4,7 @@ from __future__ import annotations
 from dataclasses import dataclass
 from typing import TYPE_CHECKING, Callable, Optional
 
-from ..frames import BLS, CONTROLLER, EOFT, NAME_SERVER, SOFI3, Fc, Heard, fc_check, fcid
+from ..frames.heard import BLS, CONTROLLER, EOFT, NAME_SERVER, SOFI3, Fc, Heard, fc_check, fcid
 from . import speech
 from .asking import Asked
 from .speech import ABORT, CT_REQUEST, ELS_REPLY, ELS_REQUEST, NONE, REPLY, REQUEST, Head
@@ -161,7 +161,7 @@ class NPort:
             self.ask(Asked(address, ELS_TYPE, speech.process_login(speech.PRLI, self.functions), lambda it: self.process(address, it)))
         else:
             del self.peers[address]
-            if heard.fc.payload[5] in BUSY:
+            if len(heard.fc.payload) > 5 and heard.fc.payload[5] in BUSY:
                 self.host.timers.set(("enter", self.name, address), BUSY_AGAIN, lambda: self.again(address))
 
     def again(self, address: int) -> None:

@@ -3,7 +3,7 @@ import struct
 from dataclasses import dataclass
 from typing import Optional
 
-from ..frames import ALL_FCFS, CONTROLLER, FABRIC_PORT, FCOE_TYPE, FIP_TYPE, NAME_SERVER, SOFI3, EOFT, TAG_TYPE, fc_check
+from ..frames.heard import ALL_FCFS, CONTROLLER, FABRIC_PORT, FCOE_TYPE, FIP_TYPE, NAME_SERVER, SOFI3, EOFT, TAG_TYPE, fc_check
 
 SHORTEST = 60  # of an Ethernet frame, without its check sequence
 RECEIVE = 2112  # the receive size of a host

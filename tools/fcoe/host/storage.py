@@ -5,7 +5,7 @@ import struct
 from dataclasses import dataclass
 from typing import TYPE_CHECKING
 
-from ..frames import EOFN, EOFT, SOFI3, SOFN3, Fc
+from ..frames.heard import EOFN, EOFT, SOFI3, SOFN3, Fc
 from . import speech
 from .asking import Asked
 from .speech import Head
@@ -20,7 +20,9 @@ ENDED = 4.0  # seconds that a command has
 INQUIRY, WRITE = bytes([0x12, 0, 0, 0, 36, 0]), bytes([0x2A, 0, 0, 0, 0, 0, 0, 0, 8, 0])
 WRITTEN = 4096
 LARGEST = 2048  # of a data frame's payload
-DATA, READY, RESPONSE = 0x01, 0x05, 0x07  # R_CTL
+DATA, READY, COMMAND, RESPONSE = 0x01, 0x05, 0x06, 0x07  # R_CTL
+SHORTEST = {READY: 8, COMMAND: 32}  # bytes of payload that are read
+MOST_DATA = 1 << 20  # bytes that one command is answered with
 FCP_TYPE = 0x08
 MIDDLE, LAST = 0x000008, 0x090008  # F_CTL of an initiator's data frames: relative offset; end of sequence, initiative
 BACK_DATA, BACK_LAST, BACK_READY, BACK_RESPONSE = 0x800008, 0x880008, 0x890000, 0x990000
@@ -68,7 +70,9 @@ class Storage:
 
     def take(self, fc: Fc) -> None:
         kind = fc.r_ctl & 0x0F
-        if kind == 0x06:
+        if len(fc.payload) < SHORTEST.get(kind, 0):
+            return  # cut: whoever sent it asks again
+        if kind == COMMAND:
             self.take_command(fc)
         elif kind == DATA and (fc.s_id, fc.ox_id) in self.writing:
             self.take_data(fc)
@@ -83,7 +87,8 @@ class Storage:
         """The data that a target asks for, in frames that it takes."""
         peer = self.port.peers.get(fc.s_id)
         size = LARGEST if peer is None or self.port.host.has("receive-size") else min(LARGEST, peer.receive - peer.receive % 4)
-        places = range(offset, offset + length, size)
+        length = min(length, MOST_DATA, (1 << 32) - offset)
+        places = range(offset, offset + length, max(size, 4))
         for count, at in enumerate(places):
             is_last = at + size >= offset + length
             head = Head(DATA, FCP_TYPE, LAST if is_last else MIDDLE, fc.ox_id, fc.rx_id, 1, count, at)

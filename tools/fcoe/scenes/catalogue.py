@@ -1,21 +1,38 @@
 """All scenes, by name; those of a laboratory's own files too."""
+import os
 import runpy
+import traceback
+from typing import Any
 
 from ..errors import Refused, meant
-from . import clearing, discovery, exchanges, keeping, logins, services, vlans, whole
+from . import clearing, discovery, exchanges, keeping, logins, services, targets, vlans, whole
 from .holding import FIRST, FLOGI
 from .script import Scene, Wait, Want
 
-MODULES = (vlans, discovery, logins, keeping, clearing, services, exchanges, whole)
+MODULES = (vlans, discovery, logins, keeping, clearing, services, exchanges, targets, whole)
 LEARN = Scene("names", "The host's port names are learned.", "", (Want(FLOGI, 2 * FIRST), Wait(4)))
+
+
+def run_file(file: str) -> dict[str, Any]:
+    """What a file of scenes defines; a fault in it is its writer's."""
+    if os.path.isdir(file):
+        raise Refused(f"{file}: a folder: name the file with scenes in it")
+    try:
+        return runpy.run_path(file)
+    except (OSError, Refused):
+        raise
+    except (Exception, SystemExit) as why:  # pylint: disable=broad-exception-caught
+        steps = [it for it in traceback.extract_tb(why.__traceback__) if it.filename == file]
+        line = why.lineno if isinstance(why, SyntaxError) else steps[-1].lineno if steps else None
+        raise Refused(f"{file}" + (f", line {line}" if line else "") + f": {type(why).__name__}: {why}") from None
 
 
 def scenes_of(more: list[str]) -> dict[str, Scene]:
     """The scenes that are there, and those of these files, each of which has a SCENES."""
     found = {it.name: it for module in MODULES for it in module.SCENES}
     for file in more:
-        own = runpy.run_path(file).get("SCENES")
-        if not own or not all(isinstance(it, Scene) for it in own):
+        own = run_file(file).get("SCENES")
+        if not isinstance(own, (tuple, list)) or not own or not all(isinstance(it, Scene) for it in own):
             raise Refused(f"{file}: has no SCENES, a tuple of Scene: docs/BENCH.md shows one")
         found.update({it.name: it for it in own})
     return found

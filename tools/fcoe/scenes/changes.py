@@ -1,5 +1,5 @@
 """What the wire may rewrite in a frame of the forwarder."""
-from ..frames import Heard, hear
+from ..frames.heard import Heard, hear
 from .script import Change, changed
 
 
@@ -84,3 +84,26 @@ def wrong_check(frame: bytes) -> bytes:
     if heard.fc is None:
         return frame
     return changed(frame, heard.fc.end, bytes(it ^ 0xFF for it in frame[heard.fc.end : heard.fc.end + 4]))
+
+
+def rejected(reason: int, explanation: int) -> Change:
+    """An accept as an LS_RJT; its descriptors keep their lengths, and the MAC is none."""
+
+    def change(frame: bytes) -> bytes:
+        heard = hear(frame)
+        if heard.fc is None:
+            return frame
+        found = next(it for it in heard.descriptors if it.kind in (7, 8))
+        head = found.data[:1] + bytes([9]) + found.data[2:28] + bytes([1, 0, 0, 0, 0, reason, explanation, 0])
+        mac = bytes([2, 2]) + bytes(6)
+        body = frame[: heard.at + 6] + (len(head + mac) // 4).to_bytes(2, "big") + frame[heard.at + 8 : heard.at + 10] + head + mac
+        return body.ljust(60, b"\0")
+
+    return change
+
+
+def without_mac(frame: bytes) -> bytes:
+    """A login's reply without its MAC descriptor."""
+    heard = hear(frame)
+    kept = b"".join(it.data for it in heard.descriptors if it.kind != 2)
+    return changed(frame[: heard.at + 10] + kept, heard.at + 6, (len(kept) // 4).to_bytes(2, "big")).ljust(60, b"\0")

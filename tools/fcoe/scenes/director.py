@@ -3,7 +3,7 @@ import time
 from dataclasses import dataclass, field
 from typing import Callable, Optional
 
-from ..frames import Heard, fcid
+from ..frames.heard import Heard, fcid
 from .script import All, Begin, EndHost, Like, Never, Peer, Scene, Spaced, Step, Straight, Wait, Want, World
 from .stage import Bending, Event
 

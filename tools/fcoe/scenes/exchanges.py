@@ -1,5 +1,5 @@
 """Exchanges with another N_Port: PLOGI, PRLI, commands, link services, ABTS."""
-from ..frames import Heard
+from ..frames.heard import Heard
 from .acts import ABORTS, ASKS_STRANGE, ECHOES, LOGS_OUT, REFUSES, REFUSES_PRLI
 from .changes import wrong_check
 from .holding import AT_PEER, COMMAND, FABRIC_LOGIN, FIRST, FLOGI, IN_FABRIC, LATER, LINK_SERVICE, NEW_OX_ID, PRLI_PEER, answers, stays, upto_peer

@@ -1,5 +1,5 @@
 """What scenes ask of a host's frames, and the frames that they speak of."""
-from ..frames import ALL_FCFS, CONTROLLER, FABRIC_PORT, NAME_SERVER, Heard, fc_check, number
+from ..frames.heard import ALL_FCFS, CONTROLLER, FABRIC_PORT, NAME_SERVER, Heard, fc_check, number
 from .script import FCOE, Holds, Like, Never, Step, Want, World, kind
 
 FP, LEAST_SIZE = 0x8000, 2112 + 28  # of a solicitation: an FC frame of full size with what FCoE adds
@@ -76,6 +76,26 @@ def is_port_alive(heard: Heard, world: World) -> bool:
     return heard.source == mac == world.granted.get(address, b"") and name in world.names
 
 
+def is_beginning(heard: Heard, world: World) -> bool:
+    """A solicitation to another forwarder asks for its size; a host that is logged in may send it."""
+    return heard.kind != "Solicitation" or heard.destination in (ALL_FCFS, world.shown)
+
+
+def names_peer(payload: bytes, world: World) -> bool:
+    """A page of an RSCN that has the peer in it: its address, its area, its domain, or the whole fabric."""
+    for at in range(4, len(payload) - 3, 4):
+        size = 8 * (payload[at] & 3)
+        if number(payload[at + 1 : at + 4]) >> size == world.peer_address >> size:
+            return True
+    return False
+
+
+def is_of_peer(heard: Heard, world: World) -> bool:
+    """The answer to an RSCN that has the peer in it."""
+    told = [it.fc for it in world.told if it.kind == "RSCN" and it.fc is not None and names_peer(it.fc.payload, world)]
+    return heard.fc is not None and any((it.s_id, it.d_id, it.ox_id) == (heard.fc.d_id, heard.fc.s_id, heard.fc.ox_id) for it in told)
+
+
 def is_sound(heard: Heard, _world: World) -> bool:
     fc = heard.fc
     return fc is not None and fc_check(heard.data[fc.at : fc.end]) == heard.data[fc.end : fc.end + 4]
@@ -107,7 +127,7 @@ AT_NAMES, REGISTERS, WATCHES = kind("PLOGI", to=NAME_SERVER, of="host"), kind("R
 QUERIES = Like(("GPN_FT", "GID_FT", "GNN_FT", "GID_PT", "GA_NXT", "GPN_ID", "GID_PN", "GNN_ID"), of="host", words="query of the name server")
 AT_PEER, PRLI_PEER, COMMAND = kind("PLOGI", to="peer", of="host"), kind("PRLI", to="peer", of="host"), kind("FCP_CMND", to="peer", of="host")
 TO_PEER = Like(to="peer", is_fcoe=True, words="FCoE to the peer")
-STARTS_ANEW = kind("VLAN request", "Solicitation", "FLOGI", words="new beginning (VLAN request, solicitation or FLOGI)")
+STARTS_ANEW = Like(("VLAN request", "Solicitation", "FLOGI"), test=is_beginning, words="new beginning (VLAN request, solicitation or FLOGI)")
 
 
 def upto_login() -> tuple[Step, ...]:

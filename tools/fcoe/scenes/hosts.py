@@ -8,7 +8,6 @@ from dataclasses import dataclass
 from typing import IO, Optional
 
 ENDING = 10.0  # seconds that a host has to log out
-UNSTARTED = (126, 127, 255)  # statuses of a shell that couldn't run a command, and of ssh that reached no machine
 
 
 @dataclass
@@ -20,6 +19,7 @@ class Tried:
     command: str = ""  # that is the host, in its namespace
     start: str = ""  # that begins the host on the wire
     stop: str = ""
+    target: str = ""  # the command as a target, where that is another one
 
     @property
     def can_end(self) -> bool:
@@ -32,6 +32,7 @@ class Host:
     def __init__(self, tried: Tried, log: str) -> None:
         self.tried = tried
         self.log: IO[bytes] = open(log, "wb")  # pylint: disable=consider-using-with
+        self.is_told = False  # to end
         self.process: Optional["subprocess.Popen[bytes]"] = None  # the host itself
         self.begun: Optional["subprocess.Popen[bytes]"] = None  # the command that begins it
         self.stopping: Optional["subprocess.Popen[bytes]"] = None  # the command that ends it
@@ -49,6 +50,7 @@ class Host:
 
     def stop(self) -> None:
         """Tells it to end, once."""
+        self.is_told = True
         if self.process is not None:
             if self.process.poll() is None:
                 self.process.send_signal(signal.SIGTERM)
@@ -69,12 +71,14 @@ class Host:
 
     @property
     def trouble(self) -> str:
-        """Why it isn't there, where it ended by itself at once."""
+        """Why it isn't there, where it ended by itself, or couldn't be begun."""
+        if self.is_told:
+            return ""
         if self.process is not None:
             code = self.process.poll()
             return f"the host ended with status {code}" if code not in (None, 0) else ""
         code = status_of(self.begun) if self.begun is not None else None
-        return f"the command that begins the host ended with status {code}" if code in UNSTARTED else ""
+        return f"the command that begins the host ended with status {code}" if code else ""
 
 
 def status_of(it: "subprocess.Popen[bytes]") -> Optional[int]:

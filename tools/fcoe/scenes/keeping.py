@@ -1,7 +1,7 @@
 """Keep alives, and a forwarder that falls silent."""
 from .changes import period
 from .holding import ADVERTISED_ALL, ALIVE, FABRIC_LOGIN, FIRST, FLOGI, FROM_ENODE, IN_VLAN, PORT_ALIVE, PORT_KEEP, TO_FORWARDER, quiet, stays, upto_login
-from .script import ANY, Begin, Like, Lose, Never, OtherMac, Rewrite, Scene, Setup, Spaced, Straight, Wait, Want, kind
+from .script import ANY, Again, Begin, Like, Lose, Never, OtherMac, Scene, Setup, Spaced, Straight, Wait, Want, kind
 
 SOURCE, SILENCE = "FC-BB-5, FIP keep alive", "FC-BB-5, FIP discovery: 2.5 periods without an advertisement"
 OTHER = bytes.fromhex("00051e0000ee")
@@ -13,10 +13,18 @@ SCENES = (
     Scene("keep-alive", "The period is a second: keep alives come each second.", SOURCE, (*upto_login(), BEATS, Spaced(ALIVE, 6, 0.3, 1.6))),
     Scene("keep-alive-slow", "The period is three seconds: keep alives come each three.", SOURCE, (*upto_login(), BEATS, Spaced(ALIVE, 4, 1.5, 4.5)), Setup(period=3000)),
     Scene(
+        "keep-alive-fast",
+        "The period is 250 ms, the least there is: keep alives come as often.",
+        SOURCE,
+        (*upto_login(), BEATS, Spaced(ALIVE, 8, 0.05, 0.6)),
+        Setup(period=250),
+    ),
+    Scene("keep-alive-slowest", "The period is 90 seconds, the longest there is: the host logs in, and stays.", SOURCE, (*upto_login(), stays(10)), Setup(period=90_000)),
+    Scene(
         "period-changes",
         "The advertised period changes from two seconds to 0.6: keep alives come faster.",
         SOURCE,
-        (*upto_login(), Begin(Rewrite(period(600), "a period of 600 ms", ADVERTISED_ALL)), Want(ALIVE, FIRST, count=4), Spaced(ALIVE, 6, 0.1, 1.1)),
+        (*upto_login(), Begin(Again(period(600), "a period of 600 ms", 0.6, 4, ADVERTISED_ALL)), Want(ALIVE, FIRST, count=4), Spaced(ALIVE, 6, 0.1, 1.1)),
         Setup(period=2000),
     ),
     Scene(

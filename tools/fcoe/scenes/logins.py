@@ -1,9 +1,10 @@
 """FLOGI, FDISC and LOGO in FIP."""
-from ..frames import NAME_SERVER, Heard
+from ..frames.heard import NAME_SERVER, Heard
 from .acts import STOPS
+from .changes import in_descriptor, rejected, without_mac
 from .holding import ACCEPTED, ASKS_FP, AT_NAMES, FABRIC_LOGIN, FDISC, FIRST, FIRST_LOGIN, FLOGI, FROM_ENODE_MAC, IN_FABRIC
 from .holding import IN_VLAN, LATER, LINK_SERVICE, NEW_OX_ID, TO_FORWARDER, stays, upto_login
-from .script import FCOE, All, EndHost, Holds, Late, Lose, Never, Scene, Setup, Twice, Wait, Want, World, kind
+from .script import FCOE, All, EndHost, Holds, Late, Lose, Never, Rewrite, Scene, Setup, Twice, Wait, Want, World, kind
 
 SOURCE, EXCHANGES = "FC-BB-5, FIP FLOGI; FC-LS-2, FLOGI", "FC-FS-3, exchange identifiers"
 ALONE = Setup(peer="none")
@@ -82,5 +83,29 @@ SCENES = (
         (*upto_login(), Wait(1), EndHost(), Want(kind("LOGO", is_fcoe=False, words="LOGO in FIP"), LATER, (IN_VLAN, TO_FORWARDER, FROM_ENODE_MAC)), Never(FCOE, 2, 1)),
         ALONE,
         frozenset({"end"}),
+    ),
+    *(
+        Scene(
+            f"rejected-{name}",
+            f"The first FLOGI is rejected with reason {reason:02X} ({words}): the host uses nothing, and asks again.",
+            "FC-LS-2, LS_RJT",
+            (Want(FLOGI, FIRST, FABRIC_LOGIN), Want(FLOGI, 60, FABRIC_LOGIN, without=FCOE), Want(AT_NAMES, LATER, IN_FABRIC)),
+            Setup(peer="none", bends=(Rewrite(rejected(reason, 0), f"LS_RJT {reason:02X}", ACCEPTED, 1),)),
+        )
+        for name, reason, words in (("logical", 0x03, "logical error"), ("busy", 0x05, "logical busy"), ("protocol", 0x07, "protocol error"), ("unable", 0x09, "unable to perform"))
+    ),
+    *(
+        Scene(
+            name,
+            f"The first accept of the FLOGI has {words}: the host doesn't use it, and asks again.",
+            "FC-BB-5, fabric-provided MAC addresses",
+            (Want(FLOGI, FIRST, FABRIC_LOGIN), Want(FLOGI, 60, FABRIC_LOGIN, without=FCOE), Want(AT_NAMES, LATER, IN_FABRIC)),
+            Setup(peer="none", bends=(Rewrite(change, words, ACCEPTED, 1),)),
+        )
+        for name, words, change in (
+            ("accept-other-mac", "a MAC that isn't of its address", in_descriptor(2, 5, b"\x01\x77\x77")),
+            ("accept-other-map", "a MAC of another FC-MAP", in_descriptor(2, 2, b"\x0e\xfc\x77")),
+            ("accept-no-mac", "no MAC descriptor", without_mac),
+        )
     ),
 )

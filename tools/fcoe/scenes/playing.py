@@ -1,7 +1,6 @@
 """One scene, from its session's begin to what was found in it."""
 import json
 import pathlib
-import random
 import signal
 import subprocess
 import sys
@@ -9,10 +8,11 @@ import time
 from dataclasses import asdict, dataclass, field
 from typing import Any, Optional
 
-from ..frames import colons
-from ..interfaces import check
-from ..runs import TOP
-from ..sessions import new_folder
+from ..frames.heard import colons
+from ..live.interfaces import check
+from ..live.sessions import new_folder
+from ..runs.program import TOP
+from ..provenance import origin
 from .director import READY, Director, Played
 from .hosts import Host, Tried
 from .script import Scene, World
@@ -35,6 +35,8 @@ class Job:
     slack: float = 1.0
     timeout: float = 300.0
     checks: bool = True
+    name: str = ""  # of the host, and its driver, as told
+    driver: str = ""
 
 
 @dataclass
@@ -52,9 +54,16 @@ class Outcome:
     rules: dict[str, int] = field(default_factory=dict)
     unchecked: str = ""  # why `look check` found nothing
     replay: str = ""
+    last_heard: Optional[float] = None  # seconds into the scene
     bent: int = 0
     names: list[str] = field(default_factory=list)
     folder: str = ""
+    origin: dict[str, Any] = field(default_factory=dict)
+
+
+def origin_of(job: Job, files: list[str]) -> dict[str, Any]:
+    """What decides what a scene comes to."""
+    return origin("scenes", [job.program, *files], seed=job.seed, slack=job.slack, host=job.name or None, driver=job.driver or None, start=job.tried.start or job.tried.command)
 
 
 class Play:
@@ -64,7 +73,7 @@ class Play:
         self.scene, self.job = scene, job
         self.folder = new_folder(job.folder)
         self.world = World()
-        self.bending = Bending(self.world, random.Random(f"{job.seed} {scene.name}"))
+        self.bending = Bending(self.world, f"{job.seed} {scene.name}")
         self.host = Host(job.tried, str(self.folder.path / "host.log"))
         self.director = Director(scene, self.world, self.bending, job.slack, {"host": self.host.stop})
         self.wire = HostWire(job.tried.interface, self.folder, self.bending, self.director.note)
@@ -95,8 +104,8 @@ class Play:
         self.director.turn()
         if self.director.is_over:
             self.end("")
-        elif self.host.trouble and self.director.number == 0:
-            self.end(f"{self.host.trouble}: host.log has what it said")
+        elif self.host.trouble:
+            self.end(f"{self.host.trouble}: host.log has what it said{self.heard_last()}")
         elif passed > self.job.timeout:
             self.end(f"longer than {self.job.timeout:g} s (--timeout)")
 
@@ -107,7 +116,12 @@ class Play:
 
     def end(self, why: str) -> None:
         self.why, self.is_ours = why, True
-        self.stage.stop()
+        self.stage.stop("its scene")
+
+    def heard_last(self) -> str:
+        """When the host was last heard, in words."""
+        last = next((it.moment for it in reversed(self.director.events) if it.from_host), None)
+        return ", and no frame came from it" if last is None else f", and it was last heard at {last:.1f} s"
 
     def run(self) -> Outcome:
         try:
@@ -117,6 +131,7 @@ class Play:
             self.peer_wire.close()
         found = Outcome(self.scene.name, self.scene.title, self.scene.source, folder=str(self.folder.path))
         found.seconds, found.steps = round(time.monotonic() - self.begun, 2), self.director.played
+        found.last_heard = next((round(it.moment, 2) for it in reversed(self.director.events) if it.from_host), None)
         found.names, found.bent = [colons(it) for it in self.world.names], self.bending.counted
         self.judge(found, ended.status, ended.line)
         return found
@@ -131,6 +146,8 @@ class Play:
             found.why = f"replay says '{found.replay}'"
         elif not self.is_ours:
             found.verdict, found.why = STOPPED, "it was stopped"
+        elif failed is not None and not any(it.from_host for it in self.director.events):
+            found.why = "no frame came from the host"
         elif failed is not None:
             found.verdict, found.why = FAILED, f"{failed.words}: {failed.what}"
         elif self.why:
@@ -191,6 +208,7 @@ def play(scene: Scene, job: Job) -> Outcome:
     die_with_parent()
     check([job.tried.interface])
     found = Play(scene, job).run()
+    found.origin = origin_of(job, [str(pathlib.Path(job.folder) / WIRE)])
     (pathlib.Path(job.folder) / "result.json").write_text(json.dumps(asdict(found), indent=1) + "\n", encoding="utf-8")
     return found
 

@@ -10,11 +10,11 @@ from dataclasses import asdict, dataclass, replace
 from types import FrameType
 from typing import Callable, Iterator, Optional
 
-from ..runs import TOP
+from ..live.rooms import PORT, remove_stale, room
+from ..runs.program import TOP
 from .catalogue import LEARN
 from .hosts import Tried
 from .playing import STOPPED, UNABLE, Job, Outcome, outcome_of, skipped
-from .rooms import PORT, remove_stale, room
 from .script import Scene
 
 TOOL = str(TOP / "tools/scenes")
@@ -66,7 +66,7 @@ class Runner:
         tried = self.plan.job.tried
         if self.plan.in_rooms:
             tester, host = closing.enter_context(room(self.number))
-            tried = replace(tried, interface=PORT, namespace=host)
+            tried = replace(tried, interface=PORT, namespace=host, command=tried.target if tried.target and "target" in scene.needs else tried.command)
             before = ["ip", "netns", "exec", tester]
         folder = str(self.plan.folder / scene.name)
         said = {"scene": scene.name, "more": self.plan.more, "job": asdict(replace(self.plan.job, folder=folder, tried=tried))}

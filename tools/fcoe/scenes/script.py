@@ -2,7 +2,7 @@
 from dataclasses import dataclass, field
 from typing import Callable, Optional, Protocol, Union
 
-from ..frames import Heard
+from ..frames.heard import Heard
 from ..host.enode import ENode
 
 FORWARDER, VLAN = bytes.fromhex("00051e000002"), 100
@@ -191,6 +191,25 @@ class Rewrite:
 
 
 @dataclass(frozen=True)
+class Again:
+    """Frames are rewritten, and each comes again each so many seconds, so often in all."""
+
+    change: Change
+    words: str
+    seconds: float
+    count: int
+    like: Like = ANY
+    most: Optional[int] = None
+    from_host: bool = False
+
+    def bent(self, frame: bytes, _roll: float) -> list[tuple[float, bytes]]:
+        return [(turn * self.seconds, self.change(frame)) for turn in range(self.count)]
+
+    def __str__(self) -> str:
+        return f"{self.like}: {self.words}, each {self.seconds:g} s"
+
+
+@dataclass(frozen=True)
 class Astray:
     """Frames to the peer arrive at the host too; FIP with the host's MAC as destination."""
 
@@ -339,6 +358,7 @@ class Setup:
     zoned: bool = True  # the peer with the host
     rezoned: float = 0.0  # seconds behind which it's the other way, by a zone set that is activated then; 0 is never
     receive: int = 2112  # of the peer
+    peer_role: str = "target"  # or "initiator", where the host is the target
     bends: tuple[Bend, ...] = ()  # from the beginning on
 
 
@@ -351,7 +371,7 @@ class Scene:
     source: str
     steps: tuple[Step, ...]
     setup: Setup = Setup()
-    needs: frozenset[str] = frozenset()  # npiv, commands, end
+    needs: frozenset[str] = frozenset()  # npiv, commands, end, vlans, target
 
     @property
     def seconds(self) -> float:

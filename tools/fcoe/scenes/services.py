@@ -1,13 +1,14 @@
 """The name server, and the fabric's notices (RSCN)."""
-from ..frames import CONTROLLER, NAME_SERVER
+from ..frames.heard import CONTROLLER, NAME_SERVER
 from .acts import STARTS, STOPS
 from .changes import wrong_check
 from .holding import AT_NAMES, AT_PEER, FABRIC_LOGIN, FIRST, FLOGI, IN_FABRIC, LATER, LINK_SERVICE, NEW_OX_ID, OWN_ADDRESS
-from .holding import PRLI_PEER, QUERIES, REGISTERS, TO_PEER, WATCHES, WITH_FCP, answers, stays, upto_login, upto_peer, upto_watching
+from .holding import PRLI_PEER, QUERIES, REGISTERS, TO_PEER, WATCHES, WITH_FCP, answers, is_of_peer, stays, upto_login, upto_peer, upto_watching
 from .script import All, Begin, Like, Lose, Never, Rewrite, Scene, Setup, Twice, Want, kind
 
 NAMES, NOTICES = "FC-GS-6, name server", "FC-LS-2, RSCN"
 ANSWER = Like(("LS_ACC",), to=CONTROLLER, of="host", words="LS_ACC to the RSCN")
+OF_PEER = Like(("LS_ACC",), to=CONTROLLER, of="host", test=is_of_peer, words="LS_ACC to the RSCN that names the peer")
 ANSWERED = (*IN_FABRIC, answers("RSCN"))
 
 SCENES = (
@@ -33,7 +34,7 @@ SCENES = (
             *upto_watching(),
             Want(QUERIES, LATER),
             STARTS,
-            Want(ANSWER, LATER, ANSWERED),
+            Want(OF_PEER, LATER, ANSWERED),
             Want(QUERIES, 10, IN_FABRIC),
             Want(AT_PEER, LATER, IN_FABRIC),
             Want(PRLI_PEER, LATER, IN_FABRIC),
@@ -43,7 +44,7 @@ SCENES = (
         "told-twice",
         "Each RSCN arrives twice: the host logs in at the peer all the same.",
         NOTICES,
-        (*upto_watching(), Want(QUERIES, LATER), Begin(Twice(kind("RSCN"))), STARTS, Want(ANSWER, LATER, ANSWERED), Want(AT_PEER, LATER, IN_FABRIC), stays(3)),
+        (*upto_watching(), Want(QUERIES, LATER), Begin(Twice(kind("RSCN"))), STARTS, Want(OF_PEER, LATER, ANSWERED), Want(AT_PEER, LATER, IN_FABRIC), stays(3)),
     ),
     Scene(
         "notice-broken",
@@ -55,21 +56,21 @@ SCENES = (
         "told-of-logout",
         "The peer logs out: the host accepts the RSCN, asks the name server, and sends nothing to the peer.",
         NOTICES,
-        (*upto_peer(), STOPS, Want(ANSWER, LATER, ANSWERED), Want(QUERIES, 10, IN_FABRIC), Never(TO_PEER, 4, 2)),
+        (*upto_peer(), STOPS, Want(OF_PEER, LATER, ANSWERED), Want(QUERIES, 10, IN_FABRIC), Never(TO_PEER, 4, 2)),
         Setup(peer="there"),
     ),
     Scene(
         "zone-closes",
         "20 seconds in a zone set is activated that parts both: the host accepts the RSCN, asks the name server, and sends nothing to the peer.",
         f"{NOTICES}; FC-GS-6, zoning",
-        (*upto_peer(), Want(ANSWER, 40, ANSWERED), Want(QUERIES, 10, IN_FABRIC), Never(TO_PEER, 4, 2)),
+        (*upto_peer(), Want(OF_PEER, 40, ANSWERED), Want(QUERIES, 10, IN_FABRIC), Never(TO_PEER, 4, 2)),
         Setup(peer="there", rezoned=20),
     ),
     Scene(
         "zone-opens",
         "20 seconds in a zone set is activated that joins both: the host accepts the RSCN, asks the name server, and logs in at the peer.",
         f"{NOTICES}; FC-GS-6, zoning",
-        (*upto_watching(), Want(ANSWER, 40, ANSWERED, without=AT_PEER), Want(QUERIES, 10, IN_FABRIC), Want(AT_PEER, LATER, IN_FABRIC), Want(PRLI_PEER, LATER, IN_FABRIC)),
+        (*upto_watching(), Want(OF_PEER, 40, ANSWERED, without=AT_PEER), Want(QUERIES, 10, IN_FABRIC), Want(AT_PEER, LATER, IN_FABRIC), Want(PRLI_PEER, LATER, IN_FABRIC)),
         Setup(peer="there", zoned=False, rezoned=20),
     ),
     Scene(

@@ -4,16 +4,17 @@ import random
 import socket
 import struct
 import time
+from collections import Counter
 from dataclasses import dataclass, field
 from typing import Callable, Optional
 
-from ..captures import HEAD
-from ..feeding import Options, Session
-from ..frames import Heard, colons, hear
+from ..frames.captures import HEAD
+from ..frames.heard import Heard, colons, hear
 from ..host.enode import ENode, Manner
 from ..host.speech import Names
-from ..sessions import Folder
-from ..wires import Arrived, Wire
+from ..live.feeding import Options, Session
+from ..live.sessions import Folder
+from ..live.wires import Arrived, Wire
 from .changes import from_mac
 from .script import Astray, Bend, OtherMac, Setup, World, changed
 
@@ -48,9 +49,10 @@ class Bending:
     """How the host's wire is bent now."""
 
     world: World
-    random: random.Random
+    seed: str
     active: list[Active] = field(default_factory=list)
     counted: int = 0  # frames that were bent
+    rolled: Counter[tuple[str, bool]] = field(default_factory=Counter)
 
     def begin(self, bend: Bend) -> None:
         self.active.append(Active(bend))
@@ -76,7 +78,12 @@ class Bending:
         if active.is_over or not active.bend.like.fits(hear(frame), self.world):
             return [(0.0, frame)]
         active.met += 1
-        return active.bend.bent(frame, self.random.random())
+        return active.bend.bent(frame, self.roll(hear(frame).kind, active.bend.from_host))
+
+    def roll(self, kind: str, from_host: bool) -> float:
+        """A number of the seed for the Nth frame of a kind, so that a run doesn't hang on what else is sent between."""
+        self.rolled[kind, from_host] += 1
+        return random.Random(f"{self.seed} {kind} {from_host} {self.rolled[kind, from_host]}").random()
 
     def masked(self, frame: bytes, from_host: bool) -> bytes:
         """The forwarder's MAC as the wire has it."""
@@ -210,7 +217,7 @@ def configuration(setup: Setup, names: list[bytes]) -> str:
 
 
 def peer_of(setup: Setup, wire: PeerWire) -> ENode:
-    """A target that keeps the standards."""
-    made = ENode(PEER, Manner("target", receive=setup.receive), wire.say)
+    """A target that keeps the standards, or an initiator."""
+    made = ENode(PEER, Manner(setup.peer_role, receive=setup.receive), wire.say)
     wire.peer = made
     return made

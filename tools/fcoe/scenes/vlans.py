@@ -3,6 +3,7 @@ from .holding import FABRIC_LOGIN, FIRST, FLOGI, FROM_ENODE, IN_VLAN, LATER, LOG
 from .script import Late, Lose, Never, Scene, Setup, Twice, Want
 
 SOURCE = "FC-BB-5, FIP VLAN discovery"
+ASKS = frozenset({"vlans"})
 
 SCENES = (
     Scene(
@@ -14,6 +15,7 @@ SCENES = (
             Want(SOLICITS, FIRST, (IN_VLAN, FROM_ENODE, TO_FORWARDERS, SIZED)),
             Want(FLOGI, LATER, FABRIC_LOGIN),
         ),
+        needs=ASKS,
     ),
     Scene(
         "vlan-asked-again",
@@ -21,6 +23,7 @@ SCENES = (
         SOURCE,
         (Want(VLANS, FIRST, (UNTAGGED, FROM_ENODE), 3, LOGIN), Want(SOLICITS, FIRST, (IN_VLAN,)), Want(FLOGI, LATER, FABRIC_LOGIN)),
         Setup(bends=(Lose(TOLD, 2),)),
+        ASKS,
     ),
     Scene(
         "vlan-late",
@@ -28,6 +31,7 @@ SCENES = (
         SOURCE,
         (Want(VLANS, FIRST, (UNTAGGED,)), Want(FLOGI, FIRST, FABRIC_LOGIN), Never(FLOGI, 4)),
         Setup(bends=(Late(1.5, TOLD),)),
+        ASKS,
     ),
     Scene(
         "vlan-twice",
@@ -35,6 +39,7 @@ SCENES = (
         SOURCE,
         (Want(VLANS, FIRST, (UNTAGGED,)), Want(FLOGI, FIRST, FABRIC_LOGIN), Never(FLOGI, 3)),
         Setup(bends=(Twice(TOLD),)),
+        ASKS,
     ),
     Scene(
         "vlan-untold",
@@ -42,5 +47,6 @@ SCENES = (
         SOURCE,
         (Want(VLANS, FIRST, (UNTAGGED,)), Never(LOGIN, 6), Want(VLANS, FIRST, (UNTAGGED,), without=LOGIN)),
         Setup(bends=(Lose(TOLD),)),
+        ASKS,
     ),
 )

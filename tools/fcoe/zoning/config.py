@@ -123,9 +123,12 @@ class Writer:
                 written.append(self.add(zone.name, zone.wwpns))
                 continue
             pairs = zone.pairs()
-            written += self.add_pairs(zone.name, pairs) if pairs else [self.add(zone.name, zone.wwpns[:1])]
+            is_one = len(pairs) == 1 and len(zone.wwpns) == 2  # whose members all reach each other, whatever their roles
+            written += [self.add(zone.name, zone.wwpns)] if is_one else self.add_pairs(zone.name, pairs) if pairs else [self.add(zone.name, zone.wwpns[:1])]
             alone = [it for it in zone.wwpns if not any(it in pair for pair in pairs)]
-            self.lines.remarks.append(f"zone {zone.name}: its members don't all reach each other: {counted(len(pairs), 'zone')} of a pair each" + (f"; {', '.join(alone)} reaches nobody by it" if alone else ""))
+            if len(pairs) > 1 or alone:
+                made = f"{counted(len(pairs), 'zone')} of a pair{' each' if len(pairs) > 1 else ''}"
+                self.lines.remarks.append(f"zone {zone.name}: its members don't all reach each other: {made}" + (f"; {', '.join(alone)} reaches nobody by it" if alone else ""))
         name = wanted or plan.name
         if name is None:
             return None

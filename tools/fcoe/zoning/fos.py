@@ -13,7 +13,8 @@ SECTION = re.compile(r"^(Defined|Effective)\s+configuration\s*:?\s*(.*)$", re.I)
 PROPERTY = re.compile(r"^00:02:00:00:00(?::[0-9a-f]{2}){3}$", re.I)
 PEER_HEAD = re.compile(r"^(Principal|Peer)\s+Member\(?s?\)?\s*:?\s*(.*)$", re.I)
 PEER_NOTE = re.compile(r"^(Property\s+Member|Created\s+by)\s*:?\s*.*$", re.I)
-TOKEN = re.compile(rf"^(?:{WWN}|\d+,\d+|{NAME})$")
+DOMAIN_PORT = r"[0-9]{1,3},[0-9]{1,5}"
+TOKEN = re.compile(rf"^(?:{WWN}|{DOMAIN_PORT}|{NAME})$")
 COMMAND = re.compile(
     r"^(ali|zone|cfg)(create|add|remove|delete|enable|disable|save|clear|clone|rename|show|transabort|transshow|size|actvshow)\b\s*(.*)$|^zone\s+--(\w+)\s*(.*)$|^(defzone)\s+--(\w+).*$", re.I
 )
@@ -223,7 +224,7 @@ def member_of(word: str, line: Line) -> Optional[Member]:
     """The member of a word; a WWN may name a port or a node."""
     if re.fullmatch(WWN, word):
         return Member(Kind.WWPN, word.lower(), line.place)
-    if re.fullmatch(r"\d+,\d+", word):
+    if re.fullmatch(DOMAIN_PORT, word):
         return Member(Kind.DOMAIN_PORT, word, line.place)
     return Member(Kind.ALIAS, word, line.place) if re.fullmatch(NAME, word) else None
 

@@ -4,8 +4,8 @@ from dataclasses import dataclass, field
 from enum import Enum
 from typing import Optional
 
-from ..captures import bytes_of
-from ..errors import Refused, counted, tool_name
+from ..errors import Refused, counted
+from ..files import bytes_of
 from .model import WWN, Place
 
 PROMPT = re.compile(r"^(?P<host>[\w.:@/~\-]+(?:\((?P<mode>[\w.\-/:]*)\))?)[#>](?: +(?P<command>\S.*)|(?P<glued>[a-z]\S* .*)|) *$")
@@ -53,8 +53,14 @@ class Line:
 
 def overtyped(text: str) -> str:
     """A line without what a terminal wiped: backspaces, and what a carriage return wrote over."""
-    while "\b" in text:
-        text = re.sub(r"[^\b]?\b", "", text, count=1)
+    if "\b" in text:
+        kept: list[str] = []
+        for sign in text:
+            if sign != "\b":
+                kept.append(sign)
+            elif kept:
+                kept.pop()
+        text = "".join(kept)
     return text.rstrip("\r").rsplit("\r", 1)[-1]
 
 
@@ -113,8 +119,12 @@ class Faults(Refused):
     """Several refusals, a line each."""
 
     def __init__(self, faults: list[str]) -> None:
-        super().__init__(f"\n{tool_name()}: ".join(faults))
+        super().__init__("; ".join(faults))
         self.faults = faults
+
+    @property
+    def lines(self) -> list[str]:
+        return self.faults
 
 
 def spans(lines: list[Line]) -> str:

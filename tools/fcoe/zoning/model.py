@@ -5,7 +5,10 @@ from enum import Enum
 from itertools import combinations
 from typing import Optional
 
+from ..errors import Refused
+
 WWN = r"(?:[0-9A-Fa-f]{2}:){7}[0-9A-Fa-f]{2}"
+MOST_PAIRS = 500_000  # as many as a thousand N_Ports make: a forwarder has no more
 Pair = tuple[str, str]  # two WWPNs that reach each other, the lesser first
 
 
@@ -190,8 +193,18 @@ class Joined:
     def wwpns(self) -> list[str]:
         return list(dict.fromkeys(it.wwpn for it in self.members))
 
+    def joins(self, one: str, other: str) -> bool:
+        """Lets two WWPNs reach each other."""
+        ends = [[it for it in self.members if it.wwpn == wwpn] for wwpn in (one, other)]
+        return one != other and any(may_speak(a.role, b.role) for a in ends[0] for b in ends[1])
+
+    def count(self) -> int:
+        """How many pairs there are at most."""
+        return len(self.members) * (len(self.members) - 1) // 2
+
     def pairs(self) -> list[Pair]:
         """Who reaches whom, each pair once."""
+        refuse_many(self.count(), f"zone {self.name} of {len(self.members)} members")
         if self.is_plain:
             return [pair_of(*it) for it in combinations(self.wwpns, 2)]
         found = [pair_of(a.wwpn, b.wwpn) for a, b in combinations(self.members, 2) if a.wwpn != b.wwpn and may_speak(a.role, b.role)]
@@ -209,10 +222,15 @@ class Plan:
     def pairs(self) -> dict[Pair, list[str]]:
         """Who reaches whom, and the zones that join them."""
         found: dict[Pair, list[str]] = {}
+        refuse_many(sum(it.count() for it in self.zones), f"zoning of {len(self.zones)} zones")
         for zone in self.zones:
             for pair in zone.pairs():
                 found.setdefault(pair, []).append(zone.name)
         return found
+
+    def joining(self, one: str, other: str) -> list[str]:
+        """The zones that let two WWPNs reach each other."""
+        return [it.name for it in self.zones if it.joins(one, other)]
 
     def zones_of(self) -> dict[str, list[str]]:
         """The zones of each WWPN."""
@@ -230,6 +248,12 @@ class Plan:
                 some = found.setdefault(member.wwpn, [])
                 some += [it for it in member.called if it not in some]
         return found
+
+
+def refuse_many(count: int, what: str) -> None:
+    """Refuses more pairs than can be looked at one by one."""
+    if count > MOST_PAIRS:
+        raise Refused(f"a {what} has {count:,} pairs that may reach each other, of which {MOST_PAIRS:,} at most can be looked at: take fewer zones (--set, --vsan)")
 
 
 def may_speak(one: Role, other: Role) -> bool:

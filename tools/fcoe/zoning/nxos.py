@@ -3,19 +3,21 @@ import re
 from dataclasses import dataclass, field, replace
 from typing import Optional
 
+from ..numerals import whole
 from .lines import Account, Line, Use
 from .model import WWN, Kind, Member, Reading, Role, Vendor, Which, Zone, ZoneSet
 from .tables import Tables
 
+FIRST_VSAN, LAST_VSAN = 1, 4094
 NAME = r"[^\s\[\]]+"
-IN_VSAN = r"(?:\s+vsan\s+(\d+))?"
+IN_VSAN = r"(?:\s+vsan\s+([0-9]+))?"
 SET = re.compile(rf"^zoneset\s+name\s+({NAME}){IN_VSAN}$", re.I)
 ZONE = re.compile(rf"^zone\s+name\s+({NAME}){IN_VSAN}$", re.I)
 BRIEF = re.compile(rf"^zone\s+({NAME})$", re.I)
 FCALIAS = re.compile(rf"^fcalias\s+name\s+({NAME}){IN_VSAN}(?:\s+(init|initiator|target|both))?$", re.I)
 DEVICE = re.compile(rf"^device-alias\s+name\s+({NAME})\s+pwwn\s+({WWN})$", re.I)
 ACTIVATE = re.compile(rf"^zoneset\s+activate\s+name\s+({NAME}){IN_VSAN}(?:\s+force)?$", re.I)
-PERMIT = re.compile(r"^(no\s+)?zone\s+default-zone\s+permit\s+vsan\s+([\d,\s-]+)$|^VSAN:\s*(\d+)\s+default-zone:\s*(\w+).*$", re.I)
+PERMIT = re.compile(r"^(no\s+)?zone\s+default-zone\s+permit\s+vsan\s+([0-9,\s-]+)$|^VSAN:\s*([0-9]+)\s+default-zone:\s*(\w+).*$", re.I)
 SMART_OFF = re.compile(r"^smart-zoning:\s*disabled$", re.I)
 SECTION = re.compile(r"^!\s*(Active|Full)\s+Zone\s+Database\s+Section.*$", re.I)
 LABEL = re.compile(r"^!?\s*\[\s*([^\[\]]+?)\s*\]$")
@@ -39,7 +41,7 @@ MEMBERS: list[tuple[Kind, "re.Pattern[str]"]] = [
     (Kind.FABRIC_PORT, re.compile(rf"^fwwn\s+({WWN})()(.*)$", re.I)),
     (Kind.FCID, re.compile(r"^fcid\s+(?:0x)?([0-9A-Fa-f]{6})(?:\s+lun\s+(\S+))?(.*)$", re.I)),
     (Kind.INTERFACE, re.compile(rf"^interface\s+(\S+(?:\s+swwn\s+{WWN}|\s+domain-id\s+\d+)?)()(.*)$", re.I)),
-    (Kind.DOMAIN_PORT, re.compile(r"^(domain-id\s+(?:0x)?[0-9A-Fa-f]+\s+port-?number\s+(?:0x)?[0-9A-Fa-f]+)()(.*)$", re.I)),
+    (Kind.DOMAIN_PORT, re.compile(r"^(domain-id\s+(?:0x)?[0-9A-Fa-f]{1,8}\s+port-?number\s+(?:0x)?[0-9A-Fa-f]{1,8})()(.*)$", re.I)),
     (Kind.SYMBOLIC, re.compile(r"^symbolic-nodename\s+(\S+)()(.*)$", re.I)),
     (Kind.IP, re.compile(r"^ip-address\s+(\S+(?:\s+[\d.]+|/\d+)?)()(.*)$", re.I)),
     (Kind.DEVICE_ALIAS, re.compile(rf"^device-alias\s+({NAME})()(.*)$", re.I)),
@@ -188,7 +190,8 @@ class Reader:
             line.use = Use.MEMBER
         elif head := ACTIVATE.match(text):
             self.close()
-            self.reading.zoning(number_of(head[2], self.vsan)).active_name, line.use = head[1], Use.HEAD
+            line.use = Use.HEAD
+            self.reading.zoning(self.vsan_of(line, head[2])).active_name = head[1]
         elif head := PERMIT.match(text):
             self.take_default(line, head)
         elif self.block and self.block.one and self.zone is None and (head := BRIEF.match(text)):
@@ -201,22 +204,38 @@ class Reader:
     def take_default(self, line: Line, it: "re.Match[str]") -> None:
         line.use = Use.HEAD
         is_permit = it[4].lower() == "permit" if it[3] else not it[1]
-        for vsan in [int(it[3])] if it[3] else vsans_in(it[2]):
+        vsans = vsans_in(it[3] or it[2])
+        if not vsans:
+            self.no_vsan(line)
+        for vsan in vsans:
             self.vsan = vsan
             self.reading.zoning(vsan).default_permit = line.place if is_permit else None
 
     # ---- heads
 
+    def no_vsan(self, line: Line) -> Optional[int]:
+        """A number that no VSAN has is a fault of its line."""
+        self.account.fault(line, f"a VSAN is {FIRST_VSAN} to {LAST_VSAN}, and a range goes upwards")
+        return self.vsan
+
+    def vsan_of(self, line: Line, word: Optional[str]) -> Optional[int]:
+        """The VSAN of a head, or that of the heads before."""
+        if not word:
+            return self.vsan
+        found = whole(word, FIRST_VSAN, LAST_VSAN)
+        return found if found is not None else self.no_vsan(line)
+
     def open_set(self, line: Line, name: str, vsan: Optional[str]) -> None:
         self.close()
-        self.vsan = number_of(vsan, self.vsan)
+        line.use = Use.HEAD
+        self.vsan = self.vsan_of(line, vsan)
         self.block = Block(self.vsan, self.which, ZoneSet(name, line.place), line.indent)
         self.blocks.append(self.block)
-        line.use = Use.HEAD
 
     def open_zone(self, line: Line, name: str, vsan: Optional[str]) -> None:
         """A zone: inside its zone set, or by itself."""
-        own = number_of(vsan, self.vsan)
+        line.use = Use.HEAD
+        own = self.vsan_of(line, vsan)
         block = self.block
         is_inside = bool(block and block.one and block.vsan == own and "run" not in line.command and (line.indent > block.indent or not line.is_prompt and not block.one.zones[len(block.zones) :]))
         self.end_zone()
@@ -230,7 +249,6 @@ class Reader:
         block.zones.append(self.zone)
         if block.one:
             block.one.zones.append(name)
-        line.use = Use.HEAD
 
     def open_alias(self, line: Line, head: "re.Match[str]") -> bool:
         """An fcalias: a member of the zone that is open, with its own members below it, or by itself."""
@@ -244,10 +262,10 @@ class Reader:
             self.account.fault(line, f"the indentation is lost, so that it can't be told whether this alias is a member of zone {self.zone.name}: copy the lines with their spaces, or give `show running-config zone`")
             return True
         self.close()
-        self.vsan = number_of(head[2], self.vsan)
+        line.use = Use.HEAD
+        self.vsan = self.vsan_of(line, head[2])
         self.zone, self.zone_indent = Zone(head[1], line.place), line.indent
         self.reading.zoning(self.vsan).add_alias(Kind.ALIAS, self.zone)
-        line.use = Use.HEAD
         return True
 
     def end_zone(self) -> None:
@@ -333,17 +351,16 @@ class Reader:
             self.reading.remarks.append(f"{zone.place}: smart zoning is disabled in VSAN {vsan}: the members of zone {zone.name} all reach each other")
 
 
-def number_of(word: Optional[str], otherwise: Optional[int]) -> Optional[int]:
-    return int(word) if word else otherwise
-
-
 def vsans_in(text: str) -> list[int]:
-    """The VSANs of `10-12,20`."""
-    found: list[int] = []
-    for part in re.split(r"[,\s]+", text.strip()):
-        ends = [int(it) for it in part.split("-") if it]
-        found += range(ends[0], ends[-1] + 1) if ends else []
-    return found
+    """The VSANs of `10-12,20`; none where a part names none."""
+    found: dict[int, None] = {}
+    for part in re.split(r"[,\s]+", text.strip(", \t")):
+        first, _, last = part.partition("-")
+        ends = whole(first, FIRST_VSAN, LAST_VSAN), whole(last or first, FIRST_VSAN, LAST_VSAN)
+        if ends[0] is None or ends[1] is None or ends[0] > ends[1]:
+            return []
+        found.update(dict.fromkeys(range(ends[0], ends[1] + 1)))
+    return list(found)
 
 
 def read_nxos(lines: list[Line]) -> Reading:

@@ -15,7 +15,7 @@ SIGNS: dict[Vendor, "re.Pattern[str]"] = {
     Vendor.CONFIG: re.compile(r"^(fcf-mac|zone\s+(?!name\b)\S+\s+(?:[0-9a-f]{2}:){7}|vlan\s+\d+$)", re.I),
 }
 READERS: dict[Vendor, Callable[[list[Line]], Reading]] = {Vendor.NXOS: read_nxos, Vendor.FOS: read_fos, Vendor.CONFIG: read_config_zones}
-SHAPES = "`show zoneset active`, `show zone`, `show running-config zone`, `show device-alias database`, `show fcalias` (NX-OS), `cfgshow`, `zoneshow`, `alishow`, `cfgactvshow` (FOS), or a configuration"
+SHAPES = "`show zoneset active`, `show zone`, `show running-config zone`, `show device-alias database`, `show fcalias` (NX-OS), `cfgshow`, `zoneshow`, `alishow`, `cfgactvshow` (FOS), or plain lines `zone NAME WWPN WWPN ..`, to which any other switch's can be brought"
 
 
 def vendor_of(name: str, lines: list[Line]) -> Vendor:

@@ -5,6 +5,7 @@ from typing import Iterable, Optional
 from ..errors import counted
 from .model import Ends, Kind, LoginRow, Member, Role, Vendor, Zone, Zoning
 
+DEEPEST = 50  # aliases that stand one in the other: no switch takes two
 LISTS = "name captures that hold its login, or the switch's list of logins (`--logins FILE`)"
 NEXT = {
     Kind.NODE: LISTS,
@@ -64,6 +65,20 @@ class Resolver:
     faults: list[str] = field(default_factory=list)
     remarks: list[str] = field(default_factory=list)
     told: set[tuple[Kind, str]] = field(default_factory=set)
+    under: list[tuple[Kind, str]] = field(default_factory=list)  # the aliases that stand in each other, outermost first
+    known_aliases: dict[tuple[Kind, str, str], list[Ends]] = field(default_factory=dict)  # what they stand for in a zone
+    names: Optional[dict[str, tuple[str, ...]]] = None  # the aliases of one WWPN alone, by that, once they were asked for
+
+    def named(self, wwpn: str) -> tuple[str, ...]:
+        """The names of a WWPN by the aliases of all files, for zonings that print WWNs alone (the effective one)."""
+        if self.names is None:
+            found: dict[str, dict[str, None]] = {}
+            for (_, name), printings in self.zoning.aliases.items():
+                members = {it.value for printing in printings for it in printing.members}
+                if len(members) == 1 and all(it.kind is Kind.WWPN for printing in printings for it in printing.members):
+                    found.setdefault(members.pop(), {})[name] = None
+            self.names = {own: tuple(names) for own, names in found.items()}
+        return self.names.get(wwpn, ())
 
     def ends(self, member: Member, zone: str) -> list[Ends]:
         """The WWPNs of a member, or none with a fault."""
@@ -72,7 +87,7 @@ class Resolver:
             return self.of_wwpn(member, zone, called)
         key = (member.kind, member.value)
         if key in self.zoning.aliases:
-            return self.of_alias(member, self.zoning.aliases[key], zone)
+            return [Ends(it.wwpn, member.role if it.role is Role.ANY else it.role, it.called) for it in self.alias_in(member, zone)]
         found = self.known.of(member)
         if not found or member.kind is Kind.FCID and len(found) > 1:
             why = f"had by {' and '.join(found)} one after the other: zone it by pwwn" if found else NEXT[member.kind]
@@ -100,7 +115,21 @@ class Resolver:
         if ports:
             self.say(member, f"{member.value} of zone {zone} is the name of a node: its {counted(len(ports), 'port')} {', '.join(ports)} by the logins")
             return [Ends(it, member.role, called) for it in ports]
-        return [Ends(member.value, member.role, called)]
+        return [Ends(member.value, member.role, called if called or self.under else self.named(member.value))]
+
+    def alias_in(self, member: Member, zone: str) -> list[Ends]:
+        """What an alias stands for in a zone; nothing where it leads to itself, or too deep."""
+        key = (member.kind, member.value)
+        if key in self.under or len(self.under) == DEEPEST:
+            round_about = " by way of " + ", ".join(value for _, value in self.under[self.under.index(key) + 1 :]) if key in self.under and self.under[-1] != key else ""
+            self.fault_once(f"{member.place}: {member.kind.value} {member.value} " + (f"has itself as a member{round_about}" if key in self.under else f"stands in {DEEPEST} others, one in the other"))
+            return []
+        known = (*key, zone)
+        if known not in self.known_aliases:
+            self.under.append(key)
+            self.known_aliases[known] = self.of_alias(member, self.zoning.aliases[key], zone)
+            self.under.pop()
+        return self.known_aliases[known]
 
     def of_alias(self, member: Member, printings: list[Zone], zone: str) -> list[Ends]:
         """What an alias stands for; printed several times, it says the same."""
@@ -113,17 +142,21 @@ class Resolver:
         return found[0]
 
     def printed(self, alias: Zone, member: Member, zone: str) -> list[Ends]:
-        ends: list[Ends] = []
-        for it in alias.members:
-            if (it.kind, it.value) == (member.kind, member.value):
-                self.fault_once(f"{it.place}: {member.kind.value} {member.value} has itself as a member")
-            else:
-                ends += [Ends(e.wwpn, member.role if it.role is Role.ANY else it.role, (member.value, *e.called)) for e in self.ends(it, zone)]
-        return ends
+        ends = [Ends(e.wwpn, it.role, (member.value, *e.called)) for it in alias.members for e in self.ends(it, zone)]
+        is_nested = any((it.kind, it.value) in self.zoning.aliases for it in alias.members)
+        return each_once(ends) if is_nested else ends
 
     def fault_once(self, words: str) -> None:
         if words not in self.faults:
             self.faults.append(words)
+
+
+def each_once(ends: list[Ends]) -> list[Ends]:
+    """Ends with all the names that they go by: aliases in aliases may lead to one by many ways."""
+    found: dict[tuple[str, Role], dict[str, None]] = {}
+    for it in ends:
+        found.setdefault((it.wwpn, it.role), {}).update(dict.fromkeys(it.called))
+    return [Ends(wwpn, role, tuple(called)) for (wwpn, role), called in found.items()]
 
 
 def same(one: list[Ends], other: list[Ends]) -> bool:

@@ -4,19 +4,20 @@ import re
 from dataclasses import replace
 from typing import Any, Callable, Optional
 
+from ..numerals import whole
 from .lines import Line, Use
 from .model import WWN, LoginRow
 
 MAC = r"(?:[0-9A-Fa-f]{2}:){5}[0-9A-Fa-f]{2}"
 HEX = r"(?:0x)?([0-9A-Fa-f]{6})"
-FLOGI = re.compile(rf"^(\S+)\s+(\d+)\s+{HEX}\s+({WWN})\s+({WWN})$")
-FCOE = re.compile(rf"^(\S+)\s+(?:(\d+)\s+)?{HEX}\s+({WWN})\s+{MAC}$")
+FLOGI = re.compile(rf"^(\S+)\s+([0-9]+)\s+{HEX}\s+({WWN})\s+({WWN})$")
+FCOE = re.compile(rf"^(\S+)\s+(?:([0-9]+)\s+)?{HEX}\s+({WWN})\s+{MAC}$")
 FCNS = re.compile(rf"^0x([0-9A-Fa-f]{{6}})\s+(?:NL?|Nx?|F|\w+)\s+({WWN})(?:\s+\(.*?\))?(?:\s+.*)?$")
 NSSHOW = re.compile(rf"^(?:NL?|U)\s+{HEX}\s*;\s*[\d, ]*;\s*({WWN})\s*;\s*({WWN})\s*;.*$")
-SWITCHSHOW = re.compile(rf"^(\d+)\s+(?:\d+\s+){{0,2}}{HEX}\s+\S+\s+\S+\s+(\S+)\s*(.*)$")
+SWITCHSHOW = re.compile(rf"^([0-9]+)\s+(?:\d+\s+){{0,2}}{HEX}\s+\S+\s+\S+\s+(\S+)\s*(.*)$")
 LOGINSHOW = re.compile(rf"^(\S+)\s+(?:[TtGgFf]\w*\s+)?(?:\d+/\d+\s+|\S+/\S+\s+)?({WWN})\s+({MAC})\s+({MAC}).*$")
 LABEL = re.compile(r"^\[\s*([^\[\]]+?)\s*\]$")
-VSAN = re.compile(r"^VSAN\s+(\d+)\s*:?$", re.I)
+VSAN = re.compile(r"^VSAN\s+([0-9]+)\s*:?$", re.I)
 FIELD = re.compile(
     r"^(switchWwn|Fabric Port Name|Permanent Port Name|Port Index|PortSymb|NodeSymb|FC4s|Device type|Share Area|Device Shared in Other AD|Redirect|Partial|LSAN"
     r"|Device link speed|Device Link|Connected through AG|Real device behind AG|Slow Drain Device|FCoE|Port Properties)\b\s*:?\s*(.*)$"
@@ -58,7 +59,7 @@ class Tables:
         if (self.is_open or text.startswith("switchWwn")) and (part := FIELD.match(text)):
             return self.take_field(part[1], part[2])
         if head := VSAN.match(text):
-            self.vsan = int(head[1])
+            self.vsan = whole(head[1])
             return Use.NOTE
         if HEADS.match(text):
             self.is_open = False
@@ -69,17 +70,17 @@ class Tables:
         """A line below a row of `nsshow`."""
         if name == "Fabric Port Name" and re.fullmatch(WWN, value):
             return self.change(fabric_port=value.lower())
-        if name == "Port Index" and value.isdigit():
-            return self.change(index=int(value), port=value)
+        if name == "Port Index" and (index := whole(value)) is not None:
+            return self.change(index=index, port=value)
         return Use.FIELD
 
 
 def flogi(tables: Tables, line: Line, it: "re.Match[str]") -> Use:
-    return tables.add(LoginRow(it[4].lower(), line.place, int(it[3], 16), it[1], it[5].lower(), vsan=int(it[2])))
+    return tables.add(LoginRow(it[4].lower(), line.place, int(it[3], 16), it[1], it[5].lower(), vsan=whole(it[2])))
 
 
 def fcoe(tables: Tables, line: Line, it: "re.Match[str]") -> Use:
-    return tables.add(LoginRow(it[4].lower(), line.place, int(it[3], 16), it[1], vsan=int(it[2]) if it[2] else None))
+    return tables.add(LoginRow(it[4].lower(), line.place, int(it[3], 16), it[1], vsan=whole(it[2] or "")))
 
 
 def fcns(tables: Tables, line: Line, it: "re.Match[str]") -> Use:
@@ -95,7 +96,7 @@ def switchshow(tables: Tables, line: Line, it: "re.Match[str]") -> Use:
     tables.is_open = False
     names = re.findall(WWN, it[4])
     if len(names) == 1 and re.search(r"\b[NFV]\w*-Port\b", it[4]):
-        return tables.add(LoginRow(names[0].lower(), line.place, int(it[2], 16), it[1], index=int(it[1])))
+        return tables.add(LoginRow(names[0].lower(), line.place, int(it[2], 16), it[1], index=whole(it[1])))
     if re.search(r"\d+ N Port|NPIV", it[4]):
         tables.remarks.append(f"{line.place}: port {it[1]} has several N_Ports, which `switchshow` doesn't name: `nsshow` does")
     return Use.FIELD

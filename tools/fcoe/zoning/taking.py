@@ -122,6 +122,28 @@ def with_default(plan: Plan, zoning: Zoning, known: Known, vendor: Vendor, resol
         resolver.remarks.append(f"{place}: the default zone permits: zone default_zone has the {len(rest)} N_Ports that logged in and are in no zone")
 
 
+def members_of(zones: list[Zone], zoning: Zoning) -> frozenset[str]:
+    """The members of a zone's printings as they stand, aliases of WWPNs as those."""
+    found: set[str] = set()
+    for it in (member for zone in zones for member in zone.members):
+        printings = zoning.aliases.get((it.kind, it.value), [])
+        found |= {one.value for printing in printings for one in printing.members} if printings else {it.value}
+    return frozenset(found)
+
+
+def apart(zoning: Zoning) -> list[str]:
+    """How the defined zoning differs from the active one of the same name: what the next activation would change."""
+    name = zoning.active_name
+    if name is None or name not in zoning.full.sets or zoning.active.is_empty:
+        return []
+    defined = {it: members_of(zoning.full.zones.get(it, []), zoning) for one in zoning.full.sets[name] for it in one.zones}
+    active = {it: members_of(zones, zoning) for it, zones in zoning.active.zones.items()}
+    more, less = sorted(set(defined) - set(active)), sorted(set(active) - set(defined))
+    other = sorted(it for it in set(defined) & set(active) if defined[it] != active[it])
+    words = [f"{text} {', '.join(some[:4])}{' ..' if len(some) > 4 else ''}" for text, some in (("defined alone:", more), ("active alone:", less), ("with other members:", other)) if some]
+    return [f"{name}: the defined zone set and the active one differ, {'; '.join(words)}: activating it would change that"] if words else []
+
+
 def loose(choice: Choice) -> list[str]:
     """Zones that stand in no zone set: they aren't taken."""
     sets = [it for some in choice.database.sets.values() for it in some]
@@ -132,7 +154,7 @@ def loose(choice: Choice) -> list[str]:
 def plan_of(reading: Reading, zoning: Zoning, choice: Choice, known: Known, is_skipping: bool) -> Taken:
     """The zones of a choice as a plan; refuses members that can't be said, unless they are to be skipped."""
     resolver = Resolver(zoning, known, reading.vendor)
-    resolver.remarks += loose(choice)
+    resolver.remarks += apart(zoning) + loose(choice)
     taker = Taker(resolver)
     plan = Plan(choice.name, [], choice.about)
     for name in choice.zones:

@@ -6,7 +6,8 @@ from .config import spelled
 from .model import Joined, Plan, Role, Vendor
 
 FOS_LIST = 16  # members of one command of FOS: the rest is added by further ones
-ROLE_WORDS = {Role.INITIATOR: "init", Role.PRINCIPAL: "init", Role.TARGET: "target", Role.PEER: "target", Role.ANY: "both"}
+# a principal is the storage by custom, so that commands of one vendor come back from the other's as they were
+ROLE_WORDS = {Role.INITIATOR: "init", Role.PRINCIPAL: "target", Role.TARGET: "target", Role.PEER: "init", Role.ANY: "both"}
 
 
 def nxos_commands(plan: Plan, vsan: Optional[int]) -> tuple[list[str], list[str]]:
@@ -18,9 +19,10 @@ def nxos_commands(plan: Plan, vsan: Optional[int]) -> tuple[list[str], list[str]
         lines.append(f"zone smart-zoning enable vsan {vsan}")
     for zone in plan.zones:
         lines.append(f"zone name {zone.name} vsan {vsan}")
-        lines += [f"  member pwwn {it.wwpn}" + ("" if zone.is_plain else f" {ROLE_WORDS[it.role]}") for it in zone.members]
+        is_plain = zone.is_plain
+        lines += [f"  member pwwn {it.wwpn}" + ("" if is_plain else f" {ROLE_WORDS[it.role]}") for it in zone.members]
         if any(it.role in (Role.PRINCIPAL, Role.PEER) for it in zone.members):
-            remarks.append(f"zone {zone.name}: a peer zone is a smart zone here: principals are init, peers are target")
+            remarks.append(f"zone {zone.name}: a peer zone is a smart zone here: principals are target, peers are init")
     name = plan.name or "zones"
     lines.append(f"zoneset name {name} vsan {vsan}")
     lines += [f"  member {it.name}" for it in plan.zones]

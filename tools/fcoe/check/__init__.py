@@ -1,0 +1,1 @@
+"""`look check`: what the standards ask of hosts and forwarders, rule by rule."""

@@ -1,0 +1,165 @@
+"""Rules on keep alives (FC-BB-5, FIP keep alive)."""
+from typing import Iterator, Optional
+
+from ..frames.heard import KEEP_ALIVE, colons, fcid
+from .discovery import has_kinds
+from .rules import ONE_WAY, Fault, Group, Tally, want
+from .talk import PERIODS, Shown, Talk, mac_in, period_in, vx_in
+
+PORT_PERIOD = 90_000  # FKA_VN_PERIOD in milliseconds
+LATE = 1.5  # periods behind which one may be missing from the capture
+SURE = 4.5  # periods without one, behind which it isn't two that are lost
+HABIT = 4  # late keep alives, from which on it's no accident
+BOTH = ("Keep alive", "VN_Port keep alive")
+RULES = Group("keep alives")
+
+
+@RULES.rule("alive-descriptors", "FC-BB-5, FIP operations", "An ENode's keep alive has a MAC descriptor, a VN_Port's a Vx_Port descriptor too.")
+def described(talk: Talk, tally: Tally) -> None:
+    for it in talk.of(*BOTH):
+        kinds = (2, 11) if it.heard.kind == "VN_Port keep alive" else (2,)
+        tally.judge(it, has_kinds(it.heard, kinds))
+
+
+@RULES.rule("alive-source", "FC-BB-5, FIP keep alive", "An ENode's keep alive comes from the ENode's MAC, a VN_Port's from the VN_Port's.")
+def sources(talk: Talk, tally: Tally) -> None:
+    """That of an ENode comes from its MAC, that of a VN_Port from the VN_Port's."""
+    for it in talk.of(*BOTH):
+        ports = vx_in(it.heard)
+        should = ports[0][0] if ports else mac_in(it.heard)
+        if should is not None:
+            tally.judge(it, want("source", colons(it.heard.source), colons(should)))
+
+
+@RULES.rule("alive-mac", "FC-BB-5, FIP keep alive", "The MAC descriptor of both is the ENode's MAC.")
+def enode_named(talk: Talk, tally: Tally) -> None:
+    for it in talk.of(*BOTH):
+        mac = mac_in(it.heard)
+        if mac is not None and any(one.heard.operation and one.heard.operation != KEEP_ALIVE for one in talk.own):
+            tally.judge(it, want("MAC descriptor", colons(mac), colons(talk.mac)))
+
+
+@RULES.rule("alive-port", "FC-BB-5, FIP keep alive, Vx_Port descriptor", "A VN_Port's keep alive has the address and port name of its login.")
+def port_named(talk: Talk, tally: Tally) -> None:
+    """MAC, address and port name are those of the login."""
+    for it in talk.of("VN_Port keep alive"):
+        for mac, address, name in vx_in(it.heard):
+            found = talk.grant_of(mac, it.at)
+            if found is None:
+                tally.leave(ONE_WAY if not talk.is_two_way else "the grant of this MAC isn't in the capture", it)
+            else:
+                tally.judge(it, want("address", fcid(address), fcid(found.address)))
+                if any(found.name):
+                    tally.lack(found, it, want("port name", colons(name), colons(found.name)), missing=2)
+
+
+@RULES.rule("alive-destination", "FC-BB-5, FIP keep alive", "Keep alives go to the forwarder of the login.")
+def to_forwarder(talk: Talk, tally: Tally) -> None:
+    for it in talk.of(*BOTH):
+        there = it.heard.destination
+        held = {grant.forwarder for grant in talk.grants if grant.granted.at < it.at}
+        advertised = {one.heard.source for one in talk.advertisements if one.at < it.at}
+        if held and there not in held and there in advertised:
+            tally.leave(f"it goes to {colons(there)}, a forwarder that the ENode may log in at next", it)
+        elif held:
+            tally.judge(it, want("destination", colons(there), " or ".join(map(colons, sorted(held))), there in held))
+        else:
+            tally.judge(it, want("destination", colons(there), "the forwarder's MAC", not there[0] & 1))
+
+
+def spans(talk: Talk) -> Iterator[tuple[Shown, Optional[Shown], float]]:
+    """When somebody of the ENode was logged in: from each accepted FLOGI to the end of its last login, or to a further FLOGI."""
+    firsts = [it for it in talk.grants if it.granted.heard.login_kind == "FLOGI"]
+    for grant, after in zip(firsts, [*firsts[1:], None]):
+        until = after.granted.at if after else len(talk.port.frames)
+        ends = [it.ended for it in talk.grants if grant.granted.at <= it.granted.at < until]
+        last = max((it for it in ends if it), key=lambda it: it.at, default=None)
+        ended = None if any(it is None for it in ends) else last
+        yield grant.granted, ended, ended.clock if ended else talk.end
+
+
+def advertised_period(talk: Talk, forwarder: bytes, begin: float, end: float) -> Optional[int]:
+    """The longest period that a forwarder advertised up to the end of a gap, from the last one before it on; none where D says that no keep alive is owed."""
+    told = [it for it in talk.advertisements if it.heard.source == forwarder and it.clock <= end]
+    earlier = [it for it in told if it.clock <= begin][-1:]
+    found = [period for it in earlier + [it for it in told if it.clock > begin] if (period := period_in(it.heard))]
+    return None if not found or any(is_quiet for _, is_quiet in found) else max(period for period, _ in found)
+
+
+def gaps(talk: Talk, tally: Tally, begin: Shown, end: float, beats: list[Shown], fixed: Optional[int] = None) -> None:
+    """Judges the time between keep alives, from a login to its end; while the forwarder is silent none is owed."""
+    last = begin
+    late: list[tuple[Shown, float, int]] = []
+    for it in [*beats, None]:
+        clock, shown = it.clock if it else end, it or last
+        silent = [one.begin for one in talk.silences if one.last.heard.source == begin.heard.source and one.begin < clock and last.clock < one.end]
+        gap = min([clock, *silent]) - last.clock
+        advertised = advertised_period(talk, begin.heard.source, last.clock, clock)
+        period = fixed if fixed and advertised else advertised
+        if period and gap > PERIODS * period:
+            fault = Fault("time without a keep alive", f"{gap / 1000:.1f} s after frame {last.place}", f"one each {period / 1000:g} s")
+            tally.lack(("beat", shown.at), shown, fault, missing=2 if gap > SURE * period else 1)
+        elif period and gap > LATE * period:
+            late.append((shown, gap, period))
+        elif it and period:
+            tally.held.append(it)
+        last = shown
+    judge_late(late, len(beats), tally)
+
+
+def judge_late(late: list[tuple[Shown, float, int]], count: int, tally: Tally) -> None:
+    """Keep alives each second period: one may be lost, but not each second one."""
+    is_habit = len(late) >= HABIT and 2 * len(late) > count
+    for shown, gap, period in late:
+        if is_habit:
+            tally.judge(shown, Fault("time between keep alives", f"{gap / 1000:.1f} s, and so {len(late)} times of {count}", f"one each {period / 1000:g} s"))
+        else:
+            tally.leave(f"{gap / 1000:.1f} s without a keep alive before frame {shown.place}, with a period of {period / 1000:g} s: one may be missing from the capture", shown)
+
+
+@RULES.rule("alive-enode-period", "FC-BB-5, FIP keep alive, FKA_ADV_PERIOD", "While logged in an ENode sends one each advertised period.")
+def enode_alive(talk: Talk, tally: Tally) -> None:
+    if not talk.grants:
+        for it in talk.of("Keep alive"):
+            tally.leave(ONE_WAY if not talk.is_two_way else "no login is in the capture, so the period isn't known", it)
+    for begin, ended, end in spans(talk):
+        told = talk.advertised(begin.at, begin.heard.source)
+        beats = [it for it in talk.of("Keep alive") if begin.at < it.at and (ended is None or it.at < ended.at)]
+        if told is None:
+            tally.leave("no advertisement with the period stands before the login", begin)
+        else:
+            gaps(talk, tally, begin, end, beats)
+
+
+@RULES.rule("alive-port-period", "FC-BB-5, FIP keep alive, FKA_VN_PERIOD", "Each VN_Port sends one each 90 s.")
+def port_alive(talk: Talk, tally: Tally) -> None:
+    for grant in talk.grants:
+        end = grant.ended.clock if grant.ended else talk.end
+        beats = [it for it in talk.of("VN_Port keep alive") if it.heard.source == grant.mac and grant.granted.at < it.at and (grant.ended is None or it.at < grant.ended.at)]
+        gaps(talk, tally, grant.granted, end, beats, PORT_PERIOD)
+    if not talk.grants:
+        for it in talk.of("VN_Port keep alive"):
+            tally.leave(ONE_WAY if not talk.is_two_way else "the grant isn't in the capture", it)
+
+
+@RULES.rule("alive-quiet", "FC-BB-5, FIP discovery, D bit", "None is sent while the forwarder says so by D.", is_choice=True)
+def quiet(talk: Talk, tally: Tally) -> None:
+    """With D set no keep alive is owed."""
+    for told in talk.advertisements:
+        period = period_in(told.heard)
+        after = next((it.at for it in talk.advertisements if it.at > told.at and it.heard.source == told.heard.source), len(talk.port.frames))
+        if period and period[1] and talk.live(told.at):
+            sent = [it for it in talk.of(*BOTH) if told.at < it.at < after and it.heard.destination == told.heard.source]
+            tally.usual(sent[0] if sent else told, want("keep alives after D", len(sent), 0))
+
+
+@RULES.rule("alive-vlan", "FC-BB-5, FIP keep alive; IEEE 802.1Q", "Keep alives go out in the VLAN of the login.")
+def in_vlan(talk: Talk, tally: Tally) -> None:
+    for it in talk.of(*BOTH):
+        grant = next((one for one in reversed(talk.grants) if one.granted.at < it.at and one.forwarder == it.heard.destination), None)
+        if grant is not None:
+            tally.judge(it, want("VLAN", it.heard.vlan, grant.granted.heard.vlan))
+        elif not talk.is_two_way:
+            asked = next((one for one in reversed(talk.logins) if one.at < it.at and one.heard.destination == it.heard.destination), None)
+            if asked is not None:
+                tally.judge(it, want("VLAN", it.heard.vlan, asked.heard.vlan))

@@ -1,0 +1,536 @@
+"""What ENodes and the switch said to each other on a port, in order, with exchanges and grants: what the rules of `look check` are judged over."""
+from bisect import bisect_left, bisect_right
+from dataclasses import dataclass, field
+from functools import cached_property
+from itertools import accumulate
+from typing import ClassVar, Hashable, Iterator, Optional, Sequence
+
+from ..frames.columns import MILLISECOND
+from ..frames.heard import ADVERTISE, ALL_ENODES, CLEAR, KEEP_ALIVE, LOGIN, LOGIN_REPLY, Fc, Heard, colons, granted_in, hear, login_names, number
+from ..progress import PROGRESS
+from ..runs.configs import FPMA
+from ..runs.enodes import enodes_of
+from ..runs.inputs import Port
+
+KEPT = 100_000  # frames of a port up to which data frames stay decoded
+RESPONDER, LAST_SEQUENCE, END_SEQUENCE = 0x800000, 0x100000, 0x080000
+REQUESTS = (0x22, 0x02, 0x06)  # R_CTL of what begins an exchange: a link service, a CT_IU, an FCP command
+ANSWERS_TO_ABTS, ACKNOWLEDGES = ("BA_ACC", "BA_RJT"), 0xC0
+UNANSWERED = ("LOGO", "TEST")  # who has no login may not answer the one, and nobody answers the other
+LATE, REGULAR = 1.6, 4  # periods without a keep alive, and how many come on time for each that doesn't, for one to be lost
+PERIODS = 2.5  # advertised periods of silence that end a link (FC-BB-5)
+
+
+class Decoded:
+    """What a frame is, read anew each time; a frame that keeps it has it in its own dictionary, which comes first."""
+
+    def __get__(self, it: "Shown", _owner: type) -> Heard:
+        frames = it.port.frames
+        return frames.heard(it.at) if it.is_whole else hear(frames.data(it.at).ljust(frames.lengths[it.at], b"\0"))
+
+
+@dataclass(eq=False)
+class Shown:
+    """A frame of a capture: where it stands, its moment in milliseconds, and whether the switch sent it."""
+
+    port: Port
+    at: int
+    clock: float
+    is_switch: bool
+    heard: ClassVar[Decoded] = Decoded()
+
+    def keep(self) -> "Shown":
+        """Stays decoded."""
+        self.__dict__["heard"] = self.heard
+        return self
+
+    @property
+    def fc(self) -> Optional[Fc]:
+        return self.heard.fc
+
+    @property
+    def number(self) -> int:
+        """As Wireshark shows it; below 0 that of a frame in the output of a run."""
+        return self.port.frames.number(self.at)
+
+    @property
+    def place(self) -> str:
+        return str(self.number) if self.number > 0 else f"{-self.number} of out{self.port.number}"
+
+    @property
+    def payload(self) -> bytes:
+        return self.heard.fc.payload if self.heard.fc else b""
+
+    @property
+    def is_whole(self) -> bool:
+        return self.port.frames.is_whole(self.at)
+
+
+@dataclass(eq=False)
+class Exchange:
+    """The frames of an exchange: the request, what followed it, and the frame that ended it."""
+
+    request: Shown
+    frames: list[Shown] = field(default_factory=list)
+    reply: Optional[Shown] = None
+    ended: Optional[Shown] = None
+    aborted: Optional[Shown] = None
+    reused: Optional[Shown] = None  # a further request with its OX_ID while it was open
+    surplus: list[Shown] = field(default_factory=list)  # further ends of it that are no copies
+    settled: Optional[Shown] = None  # the answer to its ABTS
+
+
+@dataclass(eq=False)
+class Grant:
+    """An address that a switch granted, until it ended."""
+
+    enode: bytes
+    address: int
+    mac: bytes
+    granted: Shown
+    request: Optional[Shown]
+    name: bytes
+    ended: Optional[Shown] = None
+    why: str = ""
+
+    def is_live(self, at: int) -> bool:
+        return self.granted.at < at and (self.ended is None or at < self.ended.at)
+
+    @property
+    def forwarder(self) -> bytes:
+        return self.granted.heard.source
+
+
+@dataclass(frozen=True)
+class Sign:
+    """That frames are missing from the capture, or were lost on the wire: in words, and of what, where that is one exchange or login."""
+
+    what: str
+    of: Hashable = None
+    is_wire: bool = False  # the wire lost it, so that whoever sent it, or should have, behaves so
+
+
+@dataclass(frozen=True)
+class Silence:
+    """A forwarder without an advertisement: the last one, the moment at which links end by it, and when it came back or the capture ends."""
+
+    last: Shown
+    begin: float
+    end: float
+
+
+USUAL_MAP = FPMA + bytes(1)
+
+
+def mac_in(heard: Heard) -> Optional[bytes]:
+    """The MAC of a message's MAC descriptor."""
+    found = heard.descriptor(2)
+    return found.data[2:8] if found and len(found.data) >= 8 else None
+
+
+def vx_in(heard: Heard) -> list[tuple[bytes, int, bytes]]:
+    """MAC, address and port name of each Vx_Port descriptor."""
+    return [(it.data[2:8], number(it.data[9:12]), it.data[12:20]) for it in heard.descriptors if it.kind == 11 and len(it.data) >= 20]
+
+
+def period_in(heard: Heard) -> Optional[tuple[int, bool]]:
+    """The keep alive period of an advertisement in milliseconds, and its D bit."""
+    found = heard.descriptor(12)
+    return (number(found.data[4:8]), bool(found.data[3] & 1)) if found and len(found.data) >= 8 else None
+
+
+def exchange_key(it: Shown) -> Optional[Hashable]:
+    """What the frames of an exchange have in common: who began it, with whom, and its OX_ID."""
+    heard, fc = it.heard, it.heard.fc
+    if fc is None or fc.end < fc.payload_at:
+        return None
+    if heard.is_fip:
+        return ("fip", heard.source if heard.operation == LOGIN else heard.destination, fc.ox_id)
+    here, there = (fc.d_id, fc.s_id) if fc.f_ctl & RESPONDER else (fc.s_id, fc.d_id)
+    return (here, there, fc.ox_id)
+
+
+def is_request(it: Shown) -> bool:
+    """Begins an exchange."""
+    heard, fc = it.heard, it.heard.fc
+    if heard.is_fip:
+        return heard.operation == LOGIN and fc is not None
+    return fc is not None and fc.r_ctl in REQUESTS and not fc.f_ctl & RESPONDER and fc.seq_cnt == 0
+
+
+def is_end(it: Shown) -> bool:
+    """Ends its exchange: the last frame of a reply, a response of FCP, or the answer to an ABTS."""
+    heard, fc = it.heard, it.heard.fc
+    if fc is None:
+        return False
+    if heard.is_fip:
+        return heard.operation == LOGIN_REPLY
+    if fc.kind == 0:
+        return fc.r_ctl in (0x84, 0x85)
+    return (fc.is_reply or fc.r_ctl == 0x07) and bool(fc.f_ctl & END_SEQUENCE)
+
+
+def is_copy(it: Shown, other: Shown) -> bool:
+    """The same FC frame once more, as the switch sends on what one N_Port of a host sent to another."""
+    fc, sent = it.heard.fc, other.heard.fc
+    return it.is_switch and not other.is_switch and fc is not None and sent is not None and fc.data[fc.at : fc.end] == sent.data[sent.at : sent.end]
+
+
+def is_alike(it: Shown, other: Shown) -> bool:
+    """The same FC frame once more."""
+    fc, sent = it.heard.fc, other.heard.fc
+    return fc is not None and sent is not None and fc.data[fc.at : fc.end] == sent.data[sent.at : sent.end]
+
+
+class Exchanges:
+    """All exchanges of some frames."""
+
+    def __init__(self) -> None:
+        self.all: list[Exchange] = []
+        self.open: dict[Hashable, Exchange] = {}
+        self.of_frame: dict[int, Exchange] = {}
+        self.by_pair: dict[frozenset[int], list[Exchange]] = {}  # of PLOGI, PRLI and LOGO, by both addresses
+
+    def begin(self, it: Shown, key: Hashable) -> Exchange:
+        if it.heard.kind == "LOGO":
+            self.log_out(it)
+        found = self.open.get(key)
+        if found and not found.ended and not found.reused:
+            found.reused = it
+        made = self.open[key] = Exchange(it)
+        self.all.append(made)
+        if it.heard.kind in ("PLOGI", "PRLI", "LOGO") and it.heard.is_fcoe and it.fc:
+            self.by_pair.setdefault(frozenset((it.fc.s_id, it.fc.d_id)), []).append(made)
+        return made
+
+    def between(self, fc: Fc, kind: str, at: int) -> list[Exchange]:
+        """The exchanges of a kind between both ends of a frame, before it."""
+        return [it for it in self.by_pair.get(frozenset((fc.s_id, fc.d_id)), []) if it.request.heard.kind == kind and it.request.at < at]
+
+    def log_out(self, it: Shown) -> None:
+        """A LOGO ends the exchanges between both N_Ports."""
+        fc = it.heard.fc
+        pair = {fc.s_id, fc.d_id} if fc else set()
+        for one in self.open.values():
+            asked = one.request.fc
+            if asked and one.request.heard.is_fcoe and {asked.s_id, asked.d_id} == pair and not one.ended:
+                one.ended = it
+
+    def take(self, it: Shown) -> None:
+        key = exchange_key(it)
+        if key is None:
+            return
+        found = self.open.get(key)
+        if found is not None and any(is_copy(it, one) for one in found.frames[-3:]):
+            self.of_frame[it.at] = found
+            return
+        if is_request(it):
+            found = self.begin(it, key)
+        if found is None:
+            return
+        self.of_frame[it.at] = found
+        is_doubled = any(is_alike(it, one) for one in found.frames)
+        found.frames.append(it)
+        fc = it.heard.fc
+        is_reply = fc is not None and bool(fc.f_ctl & RESPONDER) if it.heard.is_fcoe else it.heard.operation == LOGIN_REPLY
+        if is_reply and found.reply is None and not (it.heard.kind in ANSWERS_TO_ABTS or fc and fc.r_ctl & 0xF0 == ACKNOWLEDGES):
+            found.reply = it
+        if it.heard.kind == "ABTS":
+            found.aborted = it
+        if it.heard.kind in ANSWERS_TO_ABTS:
+            found.settled = it
+        if is_end(it):
+            if found.ended is not None and not is_doubled:
+                found.surplus.append(it)
+            found.ended = it
+
+
+class Talk:
+    """The frames between an ENode and the switch on a port; or all frames of the fabric on a port."""
+
+    def __init__(self, port: Port, mac: bytes, name: bytes, frames: list[Shown]) -> None:
+        self.port, self.mac, self.name, self.frames = port, mac, name, frames
+        self.own = [it for it in frames if not it.is_switch]
+        self.theirs = [it for it in frames if it.is_switch]
+        self.grants: list[Grant] = []
+        for it in frames:
+            self.take(it)
+
+    @property
+    def label(self) -> str:
+        return colons(self.name) if self.name else colons(self.mac)
+
+    @property
+    def is_two_way(self) -> bool:
+        """The capture has what the switch sends to it, too; what goes to all ENodes may be heard anywhere."""
+        return any(not it.heard.destination[0] & 1 for it in self.theirs)
+
+    @property
+    def end(self) -> float:
+        """The last moment of the capture."""
+        return self.port.frames.moments[len(self.port.frames) - 1] / MILLISECOND
+
+    @cached_property
+    def exchanges(self) -> Exchanges:
+        found = Exchanges()
+        for it in self.frames:
+            found.take(it)
+        return found
+
+    def of(self, *kinds: str) -> Iterator[Shown]:
+        """The ENode's frames of some kinds."""
+        return (it for it in self.own if it.heard.kind in kinds)
+
+    def by_switch(self, *kinds: str) -> Iterator[Shown]:
+        return (it for it in self.theirs if it.heard.kind in kinds)
+
+    @cached_property
+    def clocks(self) -> list[float]:
+        return [it.clock for it in self.frames]
+
+    def within(self, begin: float, end: float) -> list[Shown]:
+        """The frames between two moments."""
+        return self.frames[bisect_left(self.clocks, begin) : bisect_right(self.clocks, end)]
+
+    @cached_property
+    def logins(self) -> list[Shown]:
+        """The ENode's FLOGIs, FDISCs and LOGOs in FIP."""
+        return [it for it in self.own if it.heard.operation == LOGIN]
+
+    def in_fcoe(self) -> Iterator[tuple[Shown, Fc]]:
+        """The ENode's frames in FCoE."""
+        return ((it, it.heard.fc) for it in self.own if it.heard.is_fcoe and it.heard.fc is not None)
+
+    def take(self, it: Shown) -> None:
+        """Takes what grants and ends addresses."""
+        heard = it.heard
+        if not it.is_switch or not heard.is_fip:
+            return
+        address = granted_in(heard)
+        if address is not None:
+            self.grant(it, address)
+        elif heard.operation == LOGIN_REPLY and heard.login_kind == "LOGO" and it.payload[:1] == b"\x02":
+            asked = self.request_of(it)
+            for grant in self.live(it.at, heard.destination) if asked and asked.fc else []:
+                if asked and asked.fc and grant.address == asked.fc.s_id:
+                    grant.ended, grant.why = it, "LOGO"
+        elif heard.operation == CLEAR:
+            listed = [mac for mac, _, _ in vx_in(heard)]
+            for grant in self.live(it.at, None if heard.destination[0] & 1 else heard.destination):
+                if grant.forwarder == heard.source and (not listed or grant.mac in listed):
+                    grant.ended, grant.why = it, "clear link of all" if not listed else "clear link"
+
+    def grant(self, it: Shown, address: int) -> None:
+        asked = self.request_of(it)
+        if asked is not None and any(one.request is asked and one.address == address for one in self.grants):
+            return  # the same accept once more
+        names = login_names(asked.heard) if asked else None
+        if it.heard.login_kind == "FLOGI" and not self.is_second(it, asked):
+            for grant in self.live(it.at, it.heard.destination):
+                grant.ended, grant.why = it, "login"
+        mac = mac_in(it.heard) or self.fc_map(it) + address.to_bytes(3, "big")
+        self.grants.append(Grant(it.heard.destination, address, mac, it, asked, names[0] if names else b""))
+
+    def is_second(self, it: Shown, asked: Optional[Shown]) -> bool:
+        """A further accept of a FLOGI that came twice, which its ENode may have taken for nothing."""
+        return asked is not None and any(one.request is not None and one.request.heard.data == asked.heard.data and it.clock - one.granted.clock < 2_000 for one in self.grants)
+
+    def fc_map(self, it: Shown) -> bytes:
+        """That of the forwarder that sent a frame, as it advertised it before; the usual one where it didn't."""
+        told = next((one.heard.descriptor(5) for one in reversed(self.theirs) if one.at < it.at and one.heard.source == it.heard.source and one.heard.descriptor(5)), None)
+        return told.data[5:8] if told and len(told.data) >= 8 else USUAL_MAP
+
+    def request_of(self, it: Shown) -> Optional[Shown]:
+        """The request in FIP that this frame answers."""
+        fc = it.heard.fc
+        earlier = (asked for asked in reversed(self.logins) if asked.at < it.at and asked.heard.source == it.heard.destination)
+        return next((asked for asked in earlier if asked.fc and fc and asked.fc.ox_id == fc.ox_id), None)
+
+    def live(self, at: int, enode: Optional[bytes] = None) -> list[Grant]:
+        """The grants that are live before a frame."""
+        return [it for it in self.grants if it.is_live(at) and enode in (None, it.enode)]
+
+    def grant_of(self, mac: bytes, at: int) -> Optional[Grant]:
+        """The latest grant of a MAC before a frame, whether or not it has ended."""
+        return next((it for it in reversed(self.grants) if it.mac == mac and it.granted.at < at), None)
+
+    @cached_property
+    def advertisements(self) -> list[Shown]:
+        return [it for it in self.theirs if it.heard.operation == ADVERTISE]
+
+    def advertised(self, at: int, forwarder: Optional[bytes] = None) -> Optional[Shown]:
+        """The latest advertisement of a forwarder before a frame."""
+        return next((it for it in reversed(self.advertisements) if it.at < at and forwarder in (None, it.heard.source)), None)
+
+    def began_before(self, it: Shown) -> bool:
+        """The ENode may have logged in before the capture began: no accepted FLOGI stands before this frame, nor a discovery with a FLOGI at the
+        begin of all that it sent."""
+        if any(grant.granted.at < it.at and grant.granted.heard.login_kind == "FLOGI" for grant in self.grants):
+            return False
+        first, kinds = next(iter(self.own), it), {one.heard.kind for one in self.own if one.at < it.at}
+        return first.heard.kind != "VLAN request" and (first.heard.kind != "Solicitation" or "FLOGI" not in kinds)
+
+    @cached_property
+    def silences(self) -> list[Silence]:
+        """Where a forwarder fell silent for two and a half periods: from which advertisement on, from when on, and until when."""
+        by_forwarder: dict[tuple[bytes, int], list[Shown]] = {}
+        for it in self.advertisements:
+            by_forwarder.setdefault((it.heard.source, it.heard.vlan), []).append(it)
+        found = []
+        for some in by_forwarder.values():
+            if not any(it.heard.destination == ALL_ENODES for it in some):
+                continue
+            for it, after in zip(some, [*some[1:], None]):
+                period, until = period_in(it.heard), after.clock if after else self.end
+                if period and until - it.clock > PERIODS * period[0]:
+                    found.append(Silence(it, it.clock + PERIODS * period[0], until))
+        return found
+
+    @property
+    def accounted(self) -> int:
+        """Frames whose loss would be seen: those of sequences and discovery, and of exchanges that were answered."""
+        return self.port.tidy.accounted + sum(len(it.frames) for it in self.exchanges.all if it.reply is not None)
+
+    @cached_property
+    def signs(self) -> list[Sign]:
+        """That frames are missing, or were lost on the wire."""
+        found = [Sign(it.what) for it in self.port.tidy.holes]
+        if self.port.tidy.is_askew:
+            found.append(Sign("the order of both directions is a guess"))
+        return [*found, *self.signs_of_exchanges(), *self.signs_of_beats()]
+
+    def signs_of_exchanges(self) -> Iterator[Sign]:
+        """An ABTS, or the same request once more, says that something was lost; so does an answer without its request."""
+        asked: dict[Hashable, Exchange] = {}
+        for one in self.exchanges.all:
+            fc = one.request.heard.fc
+            if one.aborted is not None and (one.reply is None or one.reply.at > one.aborted.at):
+                yield Sign(f"an exchange was aborted in frame {one.aborted.place}", one, True)
+            if fc is None or one.reply is not None or not self.is_two_way or one.request.heard.kind in UNANSWERED:
+                continue
+            if self.gave_up(fc.d_id if one.request.is_switch else fc.s_id, one.request.clock - 2_000, one.request.clock + 2_000):
+                continue
+            key = (fc.s_id, fc.d_id, fc.r_ctl, one.request.heard.kind)
+            if key in asked:
+                yield Sign(f"the {one.request.heard.kind} of frame {asked[key].request.place} isn't answered", asked[key], True)
+            asked[key] = one
+        for it in self.frames:
+            fc = it.heard.fc
+            if fc is not None and it.heard.is_fcoe and fc.is_reply and it.at not in self.exchanges.of_frame and self.is_known(fc, it) and not self.is_misnumbered(fc, it):
+                yield Sign(f"frame {it.place} answers a request that isn't there", it.at)
+
+    def is_misnumbered(self, fc: Fc, it: Shown) -> bool:
+        """An answer with another OX_ID than a request that has none: no sign of loss."""
+        for one in reversed(self.exchanges.all):
+            asked = one.request.heard.fc
+            if one.request.at < it.at and one.reply is None and asked is not None and (asked.s_id, asked.d_id) == (fc.d_id, fc.s_id):
+                return it.clock - one.request.clock < 2_000
+        return False
+
+    def is_known(self, fc: Fc, it: Shown) -> bool:
+        """One of both ends logged in at the fabric within the capture, more than R_A_TOV ago."""
+        return any(one.granted.clock < it.clock - 20_000 and one.address in (fc.s_id, fc.d_id) for one in self.grants)
+
+    def signs_of_beats(self) -> Iterator[Sign]:
+        """A keep alive that fails, where those around it come on time."""
+        some = [it for it in self.own if it.heard.kind == "Keep alive"]
+        told = self.advertised(len(self.port.frames))
+        period = period_in(told.heard) if told else None
+        if not period or not period[0]:
+            return
+        gaps = [(it, it.clock - before.clock) for before, it in zip(some, some[1:]) if before.heard.destination == it.heard.destination]
+        late = [it for it, gap in gaps if LATE * period[0] < gap < 4 * period[0]]
+        if len(gaps) - len(late) >= REGULAR * len(late):
+            yield from (Sign(f"a keep alive fails before frame {it.place}", ("beat", it.at)) for it in late)
+
+    def gave_up(self, address: int, begin: float, end: float) -> bool:
+        """The ENode or its forwarder ended the login of an address meanwhile: by FLOGI, LOGO, Clear Virtual Links, a solicitation or silence."""
+        if any(it.begin <= end and begin <= it.end for it in self.silences):
+            return True
+        kinds = ("FLOGI", "Solicitation", "VLAN request", "Clear links")
+        some = [it for it in self.within(begin, end) if it.heard.is_fip]
+        return any(it.heard.kind in kinds or it.heard.kind == "LOGO" and it.fc and it.fc.s_id == address for it in some)
+
+
+Told = dict[bytes, list[tuple[int, bytes]]]  # of a MAC: places in the capture, and the ENode that has it from there on
+
+
+class Owners:
+    """Which ENode uses a MAC in FCoE: by grants, or else by keep alives and LOGOs."""
+
+    def __init__(self, port: Port) -> None:
+        self.enodes = {it.mac for it in enodes_of([port])}
+        self.granted: Told = {}
+        self.named: Told = {}
+        self.fc_map = USUAL_MAP
+        for at in port.frames.messages():
+            heard = port.frames.heard(at)
+            if heard.is_fip:
+                self.take(at, heard)
+        self.enodes -= set(self.granted)
+
+    def take(self, at: int, heard: Heard) -> None:
+        mac, address, fabric = mac_in(heard), granted_in(heard), heard.descriptor(5)
+        if fabric is not None and len(fabric.data) >= 8:
+            self.fc_map = fabric.data[5:8]
+        if address is not None:
+            self.enodes.add(heard.destination)
+            self.granted.setdefault(mac or self.fc_map + address.to_bytes(3, "big"), []).append((at, heard.destination))
+        elif heard.kind == "VN_Port keep alive" and mac and mac != heard.source:
+            self.named.setdefault(heard.source, []).append((at, mac))
+        elif heard.operation == KEEP_ALIVE and heard.kind != "VN_Port keep alive":
+            self.enodes.add(heard.source)
+        elif heard.operation == LOGIN and heard.login_kind == "LOGO" and mac:
+            self.named.setdefault(mac, []).append((at, heard.source))
+
+    def owner(self, mac: bytes, at: int) -> bytes:
+        """The ENode behind a MAC at a place of the capture."""
+        if mac in self.enodes:
+            return mac
+        told = self.granted.get(mac) or self.named.get(mac)
+        if told:
+            return next((enode for place, enode in reversed(told) if place <= at), told[0][1])
+        return next(iter(self.enodes)) if len(self.enodes) == 1 else mac
+
+
+def shown_of(port: Port) -> Iterator[Shown]:
+    """The frames of a fabric on a port, in their order."""
+    frames = port.frames
+    is_ours = [it.heard.is_fabric for it in frames.flows]
+    own = set(port.replies)
+    keep = len(frames) <= KEPT
+    times: Iterator[int] = accumulate(frames.moments, max)
+    for at, moment in enumerate(times):
+        if is_ours[frames.flow_of[at]]:
+            it = Shown(port, at, moment / MILLISECOND, at in own)
+            yield it.keep() if keep else it
+        if at % 4096 == 0:
+            PROGRESS.say(f"{port.label}: {at:,} frames decoded")
+
+
+def talks_on(port: Port) -> list[Talk]:
+    """What each ENode of a port and the switch said to each other."""
+    owners, frames = Owners(port), list(shown_of(port))
+    by_enode: dict[bytes, list[Shown]] = {}
+    for it in frames:
+        if not it.is_switch:
+            by_enode.setdefault(owners.owner(it.heard.source, it.at), [])
+    for it in frames:
+        if it.is_switch and it.heard.destination[0] & 1:
+            for some in by_enode.values():
+                some.append(it)
+        else:
+            mac = it.heard.destination if it.is_switch else it.heard.source
+            by_enode.get(owners.owner(mac, it.at), []).append(it)
+    names = {it.mac: it.name for it in enodes_of([port])}
+    return [Talk(port, mac, names.get(mac, b""), some) for mac, some in by_enode.items()]
+
+
+def whole_of(port: Port, mac: bytes) -> Talk:
+    """All frames of the fabric on a port, as rules on the switch are judged over."""
+    return Talk(port, mac, b"", list(shown_of(port)))
+
+
+def all_talks(ports: Sequence[Port]) -> Iterator[Talk]:
+    for port in ports:
+        yield from talks_on(port)

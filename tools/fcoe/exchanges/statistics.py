@@ -1,0 +1,51 @@
+"""What ended exchanges come to: how many, how they ended, how long they took, by command, LUN and target."""
+from collections import Counter
+from dataclasses import dataclass, field
+from typing import Iterable
+
+from .exchange import End, Exchange, Kind
+from .times import Times
+
+MOST = 4096  # groups; further ones are one
+Group = tuple[str, str, str, int]  # kind, command, LUN, responder
+
+
+@dataclass
+class Sum:
+    """Exchanges of one kind, command, LUN and responder."""
+
+    count: int = 0
+    ends: Counter[str] = field(default_factory=Counter)
+    says: Counter[str] = field(default_factory=Counter)  # the answers other than that it is done
+    times: Times = field(default_factory=Times)
+    moved: int = 0  # bytes of data
+    lacking: int = 0  # bytes
+
+
+@dataclass
+class Statistics:
+    """The sums of all exchanges."""
+
+    sums: dict[Group, Sum] = field(default_factory=dict)
+    crowded: int = 0  # exchanges that are in no group of their own
+
+    def add(self, it: Exchange) -> None:
+        group = (it.kind.value, it.command, it.lun, it.responder)
+        if group not in self.sums and len(self.sums) >= MOST:
+            self.crowded += 1
+            group = (it.kind.value, "others", "", 0)
+        found = self.sums.setdefault(group, Sum())
+        found.count += 1
+        end = it.end or End.OPEN
+        found.ends[end.value] += 1
+        if end in (End.REJECTED, End.RETURNED, End.FAILED, End.ABORT_REJECTED) and (it.says in found.says or len(found.says) < 16):
+            found.says[it.says] += 1
+        if it.took is not None and end in (End.DONE, End.FAILED, End.REJECTED, End.RETURNED):
+            found.times.add(it.took, it.first)
+        found.moved += it.came
+        found.lacking += it.lacks
+
+    def ranked(self) -> Iterable[tuple[Group, Sum]]:
+        """By kind, responder, LUN, and then by count."""
+        order = {kind.value: at for at, kind in enumerate(Kind)}
+        return sorted(self.sums.items(), key=lambda it: (order[it[0][0]], it[0][3], it[0][2], -it[1].count, it[0][1]))

@@ -1,0 +1,1 @@
+"""Frames: what they are, their fields, and the captures and streams that hold them."""

@@ -1,0 +1,201 @@
+"""Captures as laboratories have them: what the tap did is found first, said, and taken out where that can be done.
+
+Ethernet check sequences that the tap kept, copies of a mirror of both sides, and the lag between two directions that were captured with two clocks are taken
+out. Frames that are cut, and frames that are missing, can only be said: what hangs on them can't be told."""
+import zlib
+from array import array
+from bisect import bisect_left
+from collections import Counter
+from dataclasses import dataclass, field
+from typing import Callable, Hashable, Iterable, Sequence
+
+from ..errors import counted
+from .columns import MILLISECOND, Flow, Frames
+from .heard import ADVERTISE, ALL_ENODES, Fc, Heard, hear, number
+from .order import RESPONDER, Ordered, in_order
+
+SEQUENCE = 4  # bytes of an Ethernet check sequence
+MOST_HAVE_IT, MIRRORED = 0.5, 0.4  # shares of frames from which on all were captured so
+COPIED_WITHIN = 2 * MILLISECOND
+GENERATION = 4096  # frames behind which copies are no longer looked for
+END_SEQUENCE, OFFSET_HELD = 0x080000, 0x000008  # F_CTL
+LATE, REGULAR = 1.6, 4  # periods without an advertisement, and how many come on time around it, for one to be missing
+DATA = 0x01  # R_CTL of FCP data
+
+
+@dataclass(frozen=True)
+class Hole:
+    """Frames that are missing: at which place of the capture it's seen, whose they are, and in words."""
+
+    at: int
+    is_switch: bool
+    what: str
+    key: Hashable = None  # of the sequence where it's seen
+
+
+@dataclass
+class Tidy:
+    """What was found of a capture."""
+
+    lines: list[str] = field(default_factory=list)  # to be said on top
+    holes: list[Hole] = field(default_factory=list)
+    cut: int = 0
+    is_askew: bool = False  # the order of both directions is guessed: answers stood before their requests, by no one lag
+    accounted: int = 0  # frames whose loss would be seen
+
+
+# ---- check sequences of Ethernet
+
+
+def has_sequence(data: bytes) -> bool:
+    """Whether the last four bytes are the check sequence of those before."""
+    return len(data) > 18 and zlib.crc32(data[:-SEQUENCE]) == int.from_bytes(data[-SEQUENCE:], "little")
+
+
+def without_sequence(flow: Flow) -> Flow:
+    return Flow(hear(flow.heard.data[:-SEQUENCE]), flow.is_message)
+
+
+def strip_sequences(frames: Frames, lines: list[str]) -> None:
+    """Takes check sequences off, by flows: those of one direction may be there alone."""
+    counts = Counter(frames.flow_of)
+    firsts: dict[int, int] = {}
+    for at, flow in enumerate(frames.flow_of):
+        firsts.setdefault(flow, at)
+    whole = [it for it, at in firsts.items() if frames.is_whole(at) and frames.flows[it].heard.is_fabric]
+    found = {it for it in whole if has_sequence(frames.flows[it].heard.data)}
+    if not found or sum(counts[it] for it in found) < MOST_HAVE_IT * sum(counts[it] for it in whole):
+        return
+    every = {it for it, at in firsts.items() if has_sequence(frames.flows[it].heard.data)}
+    frames.flows = [without_sequence(it) if number_ in every else it for number_, it in enumerate(frames.flows)]
+    stripped = 0
+    for at, flow in enumerate(frames.flow_of):
+        is_whole = frames.is_whole(at)
+        if flow in every or not is_whole and flow not in whole:
+            frames.lengths[at] -= SEQUENCE
+            frames.sizes[at] = min(frames.sizes[at], frames.lengths[at])
+            stripped += is_whole
+    frames.decoded.clear()
+    frames.alike = None
+    lines.append(f"{counted(stripped, 'frame')} end with the Ethernet check sequence, which the tap kept: taken off")
+
+
+# ---- copies
+
+
+def copies_of(frames: Frames) -> "array[int]":
+    """The places of frames that are copies of one just before: each second of those that are alike."""
+    found, last, before = array("I"), dict[bytes, int](), dict[bytes, int]()
+    for at, flow in enumerate(frames.flow_of):
+        if not frames.flows[flow].heard.is_fabric:
+            continue
+        data, moment = frames.data(at), frames.moments[at]
+        seen = last.get(data, before.get(data))
+        if seen is not None and abs(moment - seen) <= COPIED_WITHIN:
+            found.append(at)
+            last.pop(data, None)
+            before.pop(data, None)
+        else:
+            last[data] = moment
+        if len(last) >= GENERATION:
+            before, last = last, {}
+    return found
+
+
+def of_fabric(frames: Frames) -> int:
+    return sum(count for flow, count in Counter(frames.flow_of).items() if frames.flows[flow].heard.is_fabric)
+
+
+def without_copies(frames: Frames, lines: list[str]) -> Frames:
+    """The frames without the copies of a mirror that has both sides of a port; a few alike frames are no mirror."""
+    whole = of_fabric(frames)
+    copies = copies_of(frames) if whole and is_likely_mirrored(frames) else array("I")
+    if not copies or len(copies) < MIRRORED * whole:
+        return frames
+    gone = set(copies)
+    lines.append(f"{counted(len(gone), 'frame')} stand twice, as a mirror of both sides gives them: the copies are taken out")
+    return frames.part([at for at in range(len(frames)) if at not in gone])
+
+
+def is_likely_mirrored(frames: Frames) -> bool:
+    """By the first frames alone, so that a long capture isn't read for nothing."""
+    some = frames.part(range(min(len(frames), GENERATION)))
+    return len(copies_of(some)) >= MIRRORED * of_fabric(some) > 0
+
+
+# ---- what is missing
+
+
+def sequence_key(fc: Fc) -> Hashable:
+    return fc.s_id, fc.d_id, fc.ox_id, fc.data[fc.at + 12], bool(fc.f_ctl & RESPONDER)
+
+
+def sequence_holes(frames: Frames, switches: set[bytes], found: Tidy) -> None:
+    """SEQ_CNT that jumps within a sequence, where the relative offset jumps with it."""
+    running: dict[Hashable, tuple[int, int]] = {}
+    for at, flow in enumerate(frames.flow_of):
+        like = frames.flows[flow].heard
+        if not like.is_fcoe or like.fc is None or like.fc.kind != 0x08 or like.fc.r_ctl & 0x0F != DATA:
+            continue
+        fc = Fc(frames.bytes_at(at, 0, like.fc.payload_at), like.fc.at, like.fc.payload_at)
+        key, size = sequence_key(fc), frames.lengths[at] - like.fc.payload_at - 8 - (fc.f_ctl & 3)
+        offset = number(fc.data[fc.at + 20 : fc.at + 24]) if fc.f_ctl & OFFSET_HELD else -1
+        if key in running:
+            count, expected = running[key]
+            if fc.seq_cnt > count and (expected < 0 or offset != expected):
+                found.holes.append(Hole(at, like.source in switches, f"SEQ_CNT goes from {count - 1} to {fc.seq_cnt} in frame {frames.number(at)}", key[:3] if isinstance(key, tuple) else key))
+            else:
+                found.accounted += 1
+        running[key] = fc.seq_cnt + 1, offset + size if offset >= 0 else -1
+        if fc.f_ctl & END_SEQUENCE:
+            running.pop(key)
+
+
+def advertisement_holes(frames: Frames, switches: set[bytes], found: Tidy) -> None:
+    """An advertisement that fails, where those around it come on time."""
+    told: dict[tuple[bytes, int], list[tuple[int, int]]] = {}
+    period = 0
+    for at in frames.messages():
+        heard = frames.heard(at)
+        if heard.operation == ADVERTISE and heard.destination == ALL_ENODES:
+            told.setdefault((heard.source, heard.vlan), []).append((at, frames.moments[at]))
+            part = heard.descriptor(12)
+            period = number(part.data[4:8]) * MILLISECOND if part and len(part.data) >= 8 else period
+    for (source, _), some in told.items():
+        gaps = [two[1] - one[1] for one, two in zip(some, some[1:])]
+        late = [at for at, gap in enumerate(gaps) if period and LATE * period < gap < 4 * period]
+        found.accounted += len(gaps) - len(late)
+        if late and len(gaps) - len(late) >= REGULAR * len(late):
+            found.holes += [Hole(some[it + 1][0], source in switches, f"an advertisement fails before frame {frames.number(some[it + 1][0])}") for it in late]
+
+
+def find_holes(frames: Frames, switches: set[bytes], found: Tidy) -> None:
+    """What is missing, with its first sign said."""
+    sequence_holes(frames, switches, found)
+    advertisement_holes(frames, switches, found)
+    found.holes.sort(key=lambda it: it.at)
+    if found.holes:
+        found.lines.append(f"frames are missing, seen in {counted(len(found.holes), 'place')} (first: {found.holes[0].what})")
+
+
+def tidied(frames: Frames, find: Callable[[Iterable[Heard]], set[bytes]]) -> tuple[Frames, Tidy]:
+    """The frames as they were on the wire, as far as that can be told, and what was found; `find` tells the switches of frames."""
+    found = Tidy()
+    if not any(it.heard.is_fabric for it in frames.flows):
+        return frames, found
+    strip_sequences(frames, found.lines)
+    made = without_copies(frames, found.lines)
+    switches = find(made.telling())
+    ordered: Ordered = in_order(made, switches)
+    if ordered.line:
+        found.lines.append(ordered.line)
+    found.is_askew = ordered.is_guessed
+    found.cut = sum(size < length for size, length in zip(ordered.frames.sizes, ordered.frames.lengths))
+    find_holes(ordered.frames, switches, found)
+    return ordered.frames, found
+
+
+def holes_between(found: Tidy, begin: int, end: int) -> Sequence[Hole]:
+    """The holes that are seen between two places."""
+    places = [it.at for it in found.holes]
+    return found.holes[bisect_left(places, begin) : bisect_left(places, end)]

@@ -1,0 +1,1 @@
+"""A forwarder, hosts and loads on interfaces of Linux."""

@@ -1,0 +1,1 @@
+"""How the program is built, installed and released; none of it is installed."""
