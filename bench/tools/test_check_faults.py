@@ -1,0 +1,91 @@
+"""`look check` finds faults: each of faults.py is planted into a capture of both directions; and it says what it found in every form."""
+import json
+import pathlib
+import random
+import subprocess
+import xml.etree.ElementTree as ET
+from typing import Any
+
+from checking import BROKEN, LOOK, OPEN, said_of, states
+from faults import FAULTS, Fault
+from faults_known import OTHERWISE
+from good_runs import base_tapes
+from machine import slow
+from wear import WEARS
+
+from fcoe.frames.captures import write_classic
+
+BASES = base_tapes()
+
+
+def state_of(fault: Fault, wear: str, before: dict[str, set[str]]) -> str:
+    """Whether a fault was found by its rule, by others (amiss), told as open (hinted), or missed."""
+    found = states(WEARS[wear](fault.change(BASES[fault.base]), random.Random(1)))
+    rules, blamed = set(fault.rules.split()), found.get(BROKEN, set())
+    new = found.get(OPEN, set()) - before.get(OPEN, set())
+    return "found" if rules & blamed else "amiss" if blamed else "hinted" if new else "missed"
+
+
+def table(some: list[Fault], wear: str) -> dict[str, str]:
+    before = {name: states(WEARS[wear](tape, random.Random(1))) for name, tape in BASES.items()}
+    assert not any(it.get(BROKEN) for it in before.values())
+    return {it.name: state_of(it, wear, before[it.base]) for it in some}
+
+
+def expected(it: Fault) -> str:
+    return OTHERWISE.get(it.name) or ("hinted" if it.is_open else "found")
+
+
+def test_names_are_distinct() -> None:
+    assert len({it.name for it in FAULTS}) == len(FAULTS) >= 200
+
+
+def test_some_faults() -> None:
+    some = FAULTS[::12]
+    assert table(some, "as it is") == {it.name: expected(it) for it in some}
+
+
+@slow
+def test_faults() -> None:
+    assert table(FAULTS, "as it is") == {it.name: expected(it) for it in FAULTS}
+
+
+def test_outputs(tmp_path: pathlib.Path) -> None:
+    """JUnit XML over a broken capture, and statuses."""
+    fault = next(it for it in FAULTS if it.name == "crc")
+    file, xml = str(tmp_path / "broken.pcap"), str(tmp_path / "check.xml")
+    write_classic(file, fault.change(BASES[fault.base]))
+    ran = subprocess.run([LOOK, "check", "--quiet", "--junit", xml, file], capture_output=True, text=True, check=False)
+    assert ran.returncode == 1 and "  broken: crc:" in ran.stdout
+    cases = list(ET.parse(xml).iter("testcase"))
+    assert [it.get("name") for it in cases if it.find("failure") is not None] == ["crc"] and len(cases) > 80
+    said: Any = said_of([file])[0]
+    assert said["counts"][BROKEN] == 1
+    gone = subprocess.run([LOOK, "check", "--quiet", str(tmp_path / "gone.pcap")], capture_output=True, text=True, check=False)
+    assert gone.returncode == 2 and gone.stderr.count("\n") == 1
+
+
+def test_baseline_and_waivers(tmp_path: pathlib.Path) -> None:
+    """A report of before leaves what is new; a waiver keeps the status at 0 until its day; and each report says what made it."""
+    tape, fault = BASES["initiator"][:400], next(it for it in FAULTS if it.name == "vreq-f")
+    good, bad, was, waivers = (tmp_path / it for it in ("good.pcap", "bad.pcap", "was.json", "waivers"))
+    write_classic(str(good), tape)
+    write_classic(str(bad), fault.change(tape))
+    ran = subprocess.run([LOOK, "check", "--quiet", "--json", str(good)], capture_output=True, text=True, check=False)
+    was.write_text(ran.stdout)
+    made = json.loads(ran.stdout)["origin"]
+    assert ran.returncode == 0 and made["date"] and len(made["files"][0]["sha256"]) == 64
+    new = subprocess.run([LOOK, "check", "--quiet", "--baseline", str(was), str(bad)], capture_output=True, text=True, check=False)
+    assert new.returncode == 1 and new.stdout.startswith("broken, was held: fip-flags:")
+    for day, status in (("2999-01-01", 0), ("2000-01-01", 1)):
+        waivers.write_text(f"fip-flags {day} a known driver\n")
+        assert subprocess.run([LOOK, "check", "--quiet", "--waivers", str(waivers), str(bad)], capture_output=True, check=False).returncode == status
+    waivers.write_text("no-such-rule 2999-01-01 why\n")
+    wrong = subprocess.run([LOOK, "check", "--quiet", "--waivers", str(waivers), str(bad)], capture_output=True, text=True, check=False)
+    assert wrong.returncode == 2 and wrong.stderr.count("\n") == 1
+
+
+def test_rules_have_faults() -> None:
+    """Each rule on a host that may be broken has a fault that breaks it."""
+    rules = {it.strip().split(" ")[0] for it in subprocess.run([LOOK, "check", "--rules"], capture_output=True, text=True, check=True).stdout.split("\n") if " (ENode)" in it}
+    assert rules - {rule for it in FAULTS for rule in it.rules.split()} <= {"login-mac", "end-by-login"}

@@ -1,0 +1,38 @@
+"""`look trim`: of a session that was cut anywhere, in the order in which it is written, what `replay` accepts is left."""
+import json
+import pathlib
+import random
+import subprocess
+import sys
+
+import pytest
+from machine import TOOLS, TOP
+
+PAIRS = ["in1.pcap", "out1.pcap", "in2.pcap", "out2.pcap"]
+
+
+def recording(folder: pathlib.Path, program: str) -> None:
+    """A session's folder, made by a run."""
+    folder.mkdir()
+    for at, name in enumerate(("initiator", "target"), 1):
+        (folder / f"in{at}.pcap").write_bytes((TOP / f"demo/{name}.pcap").read_bytes())
+    (folder / "fabric.conf").write_bytes((TOP / "demo/fabric.conf").read_bytes())
+    subprocess.run([program, "run", "fabric.conf", "journal", *PAIRS], cwd=folder, check=True, stdout=subprocess.DEVNULL)
+    (folder / "session.json").write_text(json.dumps({"interfaces": ["a", "b"], "begun": 1}), encoding="ascii")
+
+
+@pytest.mark.parametrize("seed", range(8))
+def test_a_recording_that_was_cut(seed: int, program: str, tmp_path: pathlib.Path) -> None:
+    rng = random.Random(seed)
+    folder = tmp_path / "s"
+    recording(folder, program)
+    for name in ["journal", "out1.pcap", "out2.pcap"][: rng.randint(1, 3)] if seed % 2 else ["out1.pcap"]:
+        data = (folder / name).read_bytes()
+        (folder / name).write_bytes(data[: max(24, int(len(data) * rng.uniform(0.1, 1)))])
+    ran = subprocess.run([sys.executable, TOOLS / "look", "trim", str(folder)], capture_output=True, text=True, check=False)
+    assert ran.returncode == 0, ran.stderr
+    again = subprocess.run([program, "replay", "fabric.conf", "journal", *PAIRS], cwd=tmp_path / "s.whole", capture_output=True, text=True, check=False)
+    assert again.returncode == 0 and again.stdout.strip() in ran.stdout
+    assert ran.stdout.startswith(f"{folder}.whole: ") and "entries are whole" in ran.stdout
+    refused = subprocess.run([sys.executable, TOOLS / "look", "trim", str(folder)], capture_output=True, text=True, check=False)
+    assert refused.returncode == 2 and "File exists" in refused.stderr
