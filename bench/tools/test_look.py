@@ -123,7 +123,7 @@ class Cases(Base):
 
     def test_refusals(self) -> None:
         """Each says the file and the next step in one line."""
-        packed = {"packed.pcap": "try `zstd -d`" if shutil.which("zstd") else "unpack it with `zstd -d`"}
+        packed = {"packed.pcap": "can't be unpacked (" if shutil.which("zstd") else "unpack it with `zstd -d`"}
         for name, next_step in {**REFUSED, **packed}.items():
             said = self.refuse("look", name)
             self.assertIn(name, said)

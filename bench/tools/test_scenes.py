@@ -232,7 +232,8 @@ class Verdicts(unittest.TestCase):
             with self.subTest(why or verdict), mock.patch("fcoe.scenes.playing.replayed", return_value=replay):
                 found = Outcome("scene", steps=played)
                 job = SimpleNamespace(program="fcoe_tool", checks=False)
-                play: Any = SimpleNamespace(job=job, folder=SimpleNamespace(path=pathlib.Path()), is_ours=is_ours, why=lacked)
+                heard = SimpleNamespace(events=[SimpleNamespace(from_host=True)])
+                play: Any = SimpleNamespace(job=job, folder=SimpleNamespace(path=pathlib.Path()), is_ours=is_ours, why=lacked, director=heard)
                 Play.judge(play, found, status, line)
                 self.assertEqual((found.verdict, found.why), (verdict, why))
 
