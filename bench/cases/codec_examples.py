@@ -1,4 +1,4 @@
-"""The worked examples of the codecs that aren't printed as digits (crates/worked/specs), and frames of `make`: part of bench/cases/codec_cases."""
+"""The worked examples of the codecs that aren't printed as digits (crates/examples/specs), and frames of `make`: part of bench/cases/codec_cases."""
 import codec_judge as judge
 import made_loads
 from case_lines import Cases
@@ -14,7 +14,7 @@ def big(value: int, count: int = 8) -> bytes:
 
 
 def fields(cases: Cases) -> None:
-    cases.test("worked.Fields", "every field of a login payload has its place: behind the command bytes that rise from 1 on")
+    cases.test("examples.Fields", "every field of a login payload has its place: behind the command bytes that rise from 1 on")
     said = "features=0809 size=2571 ra-tov=202182159 ed-tov=269554195 port=1415161718191a1b node=1c1d1e1f20212223 class-3=4445464748494a4b4c4d4e4f50515253 "
     for command, name in [(4, "FLOGI"), (0x51, "FDISC"), (3, "PLOGI"), (2, "LS_ACC of a login")]:
         written = bytes([command, 0, 0, 0, 0x20, 0x20, 0, 0]) + bytes(range(8, 36)) + bytes(32) + bytes(range(68, 84)) + bytes(32)
@@ -29,12 +29,12 @@ def fields(cases: Cases) -> None:
 
 
 def payloads(cases: Cases) -> None:
-    cases.test("worked.Payloads.header", "every field of a header has its place; too short stands before not a multiple of 4, and that before too long")
+    cases.test("examples.Payloads.header", "every field of a header has its place; too short stands before not a multiple of 4, and that before too long")
     said = "r-ctl=22 d-id=010203 cs-ctl=04 s-id=050607 type=08 f-ctl=090a0b seq-id=0c df-ctl=0d seq-cnt=3599 ox-id=1011 rx-id=1213 parameter=336926231 payload=-"
     cases.judged("fc", bytes([0x22]) + bytes(range(1, 24)), said)
     for length, why in [(23, "Short"), (24 + 2114, "Odd"), (24 + 2116, "Long")]:
         cases.judged("fc", bytes(length), f"error {why}")
-    cases.test("worked.Payloads.services", "link services at the edges of their layouts")
+    cases.test("examples.Payloads.services", "link services at the edges of their layouts")
     rows = [(b"\5" + bytes(14), "error Short")]
     rows += [(bytes([5, 0, 0, 0, 0xFF, 1, 2, 3]) + NAME_A + b"\t", "LOGO address=010203 name=" + NAME_A.hex())]
     rows += [(b"\x62" + bytes(6), "error Short"), (bytes([1, 0, 0, 0, 4, 5, 6, 7]), "LS_RJT reason=05 explanation=06"), (b"\x61\4\0\4" + bytes(4), "error Page")]
@@ -44,7 +44,7 @@ def payloads(cases: Cases) -> None:
         cases.judged("els", data, want)
     for size, served in [(0x0840, 2112), (0x0841, 2112), (0x0844, 2112), (0x0FFF, 2112), (0x8101, 256), (0x0103, 256), (0x0104, 260)]:
         cases.judged("els", bytes([3]) + bytes(9) + big(size, 2) + bytes(104), f"receive-size={served}")
-    cases.test("worked.Payloads.fip", "FIP messages with descriptors in any order, and bytes that are reserved")
+    cases.test("examples.Payloads.fip", "FIP messages with descriptors in any order, and bytes that are reserved")
     rows = [("100000040002000400000e0130640202" + MAC_A.hex() + "0e01f001", f"vlan-notification mac={MAC_A.hex(':')} vlan=100 vlan=1")]
     rows.append((f"100000030002000a00000202{FORWARDER.hex()}04030909{big(0x1234).hex()}0b05{MAC_A.hex()}09010203{NAME_A.hex()}",
                  f"clear mac={FORWARDER.hex(':')} switch={big(0x1234).hex()} port={MAC_A.hex(':')},010203,{NAME_A.hex()}"))
@@ -56,7 +56,7 @@ def payloads(cases: Cases) -> None:
 
 
 def descriptors(cases: Cases) -> None:
-    cases.test("worked.Descriptors", "keep alives with more descriptors: unknown, of a wrong length, twice, and missing")
+    cases.test("examples.Descriptors", "keep alives with more descriptors: unknown, of a wrong length, twice, and missing")
 
     def alive(words: int, more: bytes, own: bytes = b"\2\2" + MAC_A) -> bytes:
         return bytes([0x10, 0, 0, 3, 0, 1, 0, words, 0, 0]) + own + more

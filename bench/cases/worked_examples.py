@@ -1,4 +1,4 @@
-"""The worked examples (crates/worked/specs) that are no journals of their own, as cases of the fabric: part of bench/cases/fabric_cases.
+"""The worked examples (crates/examples/specs) that are no journals of their own, as cases of the fabric: part of bench/cases/fabric_cases.
 
 Each answer, and each byte of a message that is compared whole, stands in the example of that name, which is proved there from the definitions.
 """

@@ -64,7 +64,7 @@ PHRASES: dict[str, tuple[str, str]] = {
     "why a frame is sent": (f"fab_gather fab_judge fab_roster {SENDS}", "Verdict Rule Journal"),
     "zones": ("zone_rules", ""),
 }
-TESTS = re.compile("_tests|_cases|case_|worked")  # in names of crates that are no rooms: tests, cases and examples
+TESTS = re.compile("_tests|_cases|case_|examples")  # in names of crates that are no rooms: tests, cases and examples
 ALL = "all "  # begins a cell that forbids all crates: `all crates but ..`, or `all other crates`
 
 

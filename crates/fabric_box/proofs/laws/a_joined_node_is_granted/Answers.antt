@@ -1,5 +1,0 @@
-use Rattle.fabric_box.proofs.BoxLemmas.{joined_is_granted}
-use Rattle.fabric_box.proofs.laws.a_joined_node_is_granted.Goals as goal
-
-pub returns : goal.returns
-returns c = joined_is_granted c.what_is_taken_are_captures.ensures

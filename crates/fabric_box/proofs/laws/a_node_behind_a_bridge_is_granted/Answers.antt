@@ -1,5 +1,0 @@
-use Rattle.fabric_box.proofs.BoxLemmas.{bridged_is_granted}
-use Rattle.fabric_box.proofs.laws.a_node_behind_a_bridge_is_granted.Goals as goal
-
-pub returns : goal.returns
-returns c = bridged_is_granted c.what_is_taken_are_captures.ensures c.enodes_are_apart.ensures
