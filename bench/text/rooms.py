@@ -1,5 +1,5 @@
 #!/usr/bin/env python3
-"""bench/text/rooms.py [TOP]: the table 'What each room may know' of docs/ARCHITECTURE.md, compared with the crates.
+"""bench/text/rooms.py [TOP]: the table 'What each room may know' of docs/inside/ARCHITECTURE.md, compared with the crates.
 
 Each cell 'What it is' stands as the first sentence of the crate's README, which may have more in brackets. Each cell 'What it doesn't know' is a list
 of phrases, and PHRASES has what each of them means: crates, or modules of their definitions, that the crate's src, specs and proofs may not name, and
@@ -120,8 +120,8 @@ def first_sentence(readme: str) -> str:
 def wrong(top: pathlib.Path) -> list[str]:
     """What rooms know that they may not, and cells that differ from the crate."""
     folders = {it.name: it for it in (top / "crates").iterdir() if (it / "src").is_dir()}
-    section = (top / "docs/ARCHITECTURE.md").read_text(encoding="utf-8").split("## What each room may know")[1].split("\n## ")[0]
-    found, page = rows(section), "docs/ARCHITECTURE.md"
+    section = (top / "docs/inside/ARCHITECTURE.md").read_text(encoding="utf-8").split("## What each room may know")[1].split("\n## ")[0]
+    found, page = rows(section), "docs/inside/ARCHITECTURE.md"
     said = [f"{page}: of {it} only the row or only the folder is there" for it in sorted(set(found) ^ {it for it in folders if not TESTS.search(it)})]
     said += [] if PROCESS[0] in section else [f"{page}: lacks the sentence '{PROCESS[0]}'"]
     used = {it for _, phrases in found.values() if not phrases[0].startswith(ALL) for it in phrases}

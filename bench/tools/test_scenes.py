@@ -1,6 +1,6 @@
 """tools/scenes over tools/fcoe_host in network namespaces, as root; what makes a verdict is tried without them.
 
-After a change of the scenes `python3 bench/tools/test_scenes.py PROGRAM` writes the table that is printed into docs/BENCH.md.
+After a change of the scenes `python3 bench/tools/test_scenes.py PROGRAM` writes the table that is printed into docs/SCENES.md.
 """
 import concurrent.futures
 import json
@@ -27,7 +27,7 @@ from fcoe.scenes.catalogue import scenes_of
 from fcoe.scenes.director import Played
 from fcoe.scenes.playing import Outcome, Play
 
-SCENES, HOST, PAGE = str(TOP / "tools/scenes"), str(TOP / "tools/fcoe_host"), TOP / "docs/BENCH.md"
+SCENES, HOST, PAGE = str(TOP / "tools/scenes"), str(TOP / "tools/fcoe_host"), TOP / "docs/SCENES.md"
 FIRST, SECOND = f"20:00:{HOST_MAC}", f"21:01:{HOST_MAC}"
 BLOCK = re.compile(r"^```\w*\n(.*?)^```$", re.S | re.M)
 TABLE = re.compile(r"```\nscene  .*?\n```\n", re.S)
@@ -91,14 +91,14 @@ def table_of(tool: str, room: pathlib.Path) -> str:
 def right(tool: str, room: pathlib.Path) -> str:
     said = table_of(tool, room)
     found = TABLE.search(PAGE.read_text(encoding="utf-8"))
-    wanted("docs/BENCH.md has the table that is printed: `python3 bench/tools/test_scenes.py PROGRAM` writes it", found and found[0] == f"```\n{said}\n```\n")
+    wanted("docs/SCENES.md has the table that is printed: `python3 bench/tools/test_scenes.py PROGRAM` writes it", found and found[0] == f"```\n{said}\n```\n")
     return said.rpartition("\n")[2]
 
 
 def page(tool: str, room: pathlib.Path) -> str:
     said = table_of(tool, room)
     text, count = TABLE.subn(lambda _: f"```\n{said}\n```\n", PAGE.read_text(encoding="utf-8"))
-    wanted("docs/BENCH.md has one table", count == 1)
+    wanted("docs/SCENES.md has one table", count == 1)
     PAGE.write_text(text, encoding="utf-8")
     return said.rpartition("\n")[2]
 
@@ -189,7 +189,7 @@ def within(namespace: str, tool: str, room: pathlib.Path, script: str) -> tuple[
 def tap(tool: str, room: pathlib.Path) -> str:
     blocks = BLOCK.findall(PAGE.read_text(encoding="utf-8"))
     made, tried = (next((it for it in blocks if words in it), "") for words in ("ip tuntap add", "fcoe_host --tap"))
-    wanted("docs/BENCH.md has the words for a tap device", made and tried)
+    wanted("docs/SCENES.md has the words for a tap device", made and tried)
     name = f"{PREFIX}-{os.getpid()}-tap"
     subprocess.run(["ip", "netns", "add", name], check=True)
     try:
@@ -258,7 +258,7 @@ class Scenes(unittest.TestCase):
 
     @slow
     def test_right(self) -> None:
-        """The host as it is passes all scenes, and docs/BENCH.md has the table that is printed."""
+        """The host as it is passes all scenes, and docs/SCENES.md has the table that is printed."""
         right(program(), self.room)
 
     @slow
@@ -278,7 +278,7 @@ class Scenes(unittest.TestCase):
 
     @slow
     def test_tap(self) -> None:
-        """The words of docs/BENCH.md for a tap device, with the host at its other end; commands that can't begin one."""
+        """The words of docs/SCENES.md for a tap device, with the host at its other end; commands that can't begin one."""
         tap(program(), self.room)
 
 

@@ -1,5 +1,5 @@
 #!/usr/bin/env python3
-"""search.py: goes through all interleavings of a small model of the turn lock, whose steps are those of docs/LOCK.md in their order.
+"""search.py: goes through all interleavings of a small model of the turn lock, whose steps are those of docs/inside/LOCK.md in their order.
 
 A state is the two words, the slot, and of each thread its place and what it holds. A thread looks for a pause at most PAUSES times, draws its
 ticket, looks until it is served, takes the value, puts it back with an entry or without one, and raises the serving number. The slot is plain

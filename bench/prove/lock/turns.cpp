@@ -1,4 +1,4 @@
-// A model of the turn lock for ThreadSanitizer: two words, one slot, and the steps of docs/LOCK.md in their order.
+// A model of the turn lock for ThreadSanitizer: two words, one slot, and the steps of docs/inside/LOCK.md in their order.
 //
 // turns THREADS TURNS [early|torn]: so many threads take so many turns each, under words that wrap on the way. The slot is
 // plain memory, so that a step which reaches it out of turn is a data race. `early` raises the serving number before the

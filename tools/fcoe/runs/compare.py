@@ -18,7 +18,7 @@ from .program import Run
 from .windows import ends_of, is_otherwise, otherwise
 
 Pair = tuple[int, int]  # addresses of two N_Ports
-PROFILE = "this project's profile (docs/DECISIONS.md)"
+PROFILE = "this project's profile (docs/inside/DECISIONS.md)"
 # fields in which a right switch may differ, and why
 CHOICES = {
     "priority (802.1Q)": f"IEEE 802.1Q leaves it to the sender; {PROFILE} writes 3",

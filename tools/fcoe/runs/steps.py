@@ -10,11 +10,11 @@ LOGIN_STEPS = {
     "rejected 03 00": "the port name beside those of all logins at that moment (`look logins --at`)",
 }
 SERVICE_STEPS = {
-    "rejected 0b 2c": "nothing, where the host goes on without it: this link service isn't in the profile (docs/DECISIONS.md)",
+    "rejected 0b 2c": "nothing, where the host goes on without it: this link service isn't in the profile (docs/inside/DECISIONS.md)",
     "rejected 0b 00": "the class of service that the host asks for (`look fields`)",
     "rejected 03 00": "the request's address, names and sizes beside those of its login (`look why`)",
     "refused 09 10": "whether its PLOGI to FFFFFC was accepted before, and not closed by a LOGO",
-    "refused 0b 00": "nothing, where the host goes on without it: this command isn't in the profile (docs/DECISIONS.md)",
+    "refused 0b 00": "nothing, where the host goes on without it: this command isn't in the profile (docs/inside/DECISIONS.md)",
     "refused 04 00": "the length of the request",
     "refused 09 01": "who the asker sees at that moment: `look names --at`, `look zones --at`",
     "refused 09 03": "the node name in the request beside that of its FLOGI",

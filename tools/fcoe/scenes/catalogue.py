@@ -33,7 +33,7 @@ def scenes_of(more: list[str]) -> dict[str, Scene]:
     for file in more:
         own = run_file(file).get("SCENES")
         if not isinstance(own, (tuple, list)) or not own or not all(isinstance(it, Scene) for it in own):
-            raise Refused(f"{file}: has no SCENES, a tuple of Scene: docs/BENCH.md shows one")
+            raise Refused(f"{file}: has no SCENES, a tuple of Scene: docs/SCENES.md shows one")
         found.update({it.name: it for it in own})
     return found
 
