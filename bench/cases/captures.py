@@ -2,7 +2,7 @@
 import struct
 from dataclasses import dataclass
 from pathlib import Path
-from typing import Iterable
+from typing import Iterable, Iterator
 
 HEAD = bytes.fromhex("d4c3b2a1020004000000000000000000ffff000001000000")
 MAGICS = {b"\xd4\xc3\xb2\xa1": ("<", 1000), b"\xa1\xb2\xc3\xd4": (">", 1000), b"\x4d\x3c\xb2\xa1": ("<", 1000000), b"\xa1\xb2\x3c\x4d": (">", 1000000)}
@@ -24,6 +24,17 @@ class Record:
     whole: bool = True
 
 
+def whole_records(file: bytes, order: str = "<") -> Iterator[tuple[int, int, int, bytes]]:
+    """Seconds, fraction, length on the wire and stored bytes of each record, up to the first that isn't whole."""
+    at = len(HEAD)
+    while at + 16 <= len(file):
+        seconds, fraction, stored, original = struct.unpack_from(order + "IIII", file, at)
+        at += 16 + stored
+        if at > len(file):
+            return
+        yield seconds, fraction, original, file[at - stored : at]
+
+
 def records_of(file: bytes, port: int = 1) -> list[Record]:
     """The records of a capture's bytes; moments in whole milliseconds, which don't go back. A fault is that of this port's capture."""
 
@@ -39,18 +50,15 @@ def records_of(file: bytes, port: int = 1) -> list[Record]:
         raise fault(0, "version")
     if struct.unpack_from(order + "I", file, 20) != (1,):
         raise fault(0, "link")
-    records, at, greatest = [], 24, 0
-    while at < len(file):
-        if at + 16 > len(file):
-            raise fault(at, "cut")
-        seconds, fraction, stored, original = struct.unpack_from(order + "IIII", file, at)
-        if stored > LONGEST:
+    records, at, greatest = [], len(HEAD), 0
+    for seconds, fraction, original, data in whole_records(file, order):
+        if len(data) > LONGEST:
             raise fault(at, "long")
-        if at + 16 + stored > len(file):
-            raise fault(at, "cut")
         greatest = max(greatest, seconds * 1000 + fraction // unit)
-        records.append(Record(greatest, file[at + 16 : at + 16 + stored], stored >= original))
-        at += 16 + stored
+        records.append(Record(greatest, data, len(data) >= original))
+        at += 16 + len(data)
+    if at < len(file):
+        raise fault(at, "long" if at + 16 <= len(file) and struct.unpack_from(order + "I", file, at + 8)[0] > LONGEST else "cut")
     return records
 
 

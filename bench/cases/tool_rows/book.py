@@ -8,7 +8,9 @@ import zlib
 from dataclasses import dataclass, field
 from typing import Callable, Iterable, Optional, Union
 
-HEAD = bytes.fromhex("d4c3b2a1020004000000000000000000ffff000001000000")
+import captures
+from captures import HEAD
+
 TEXT = frozenset(b"\n") | frozenset(range(32, 127))
 Judge = Callable[[Optional[bytes]], bool]
 
@@ -53,14 +55,8 @@ def records(data: bytes) -> Optional[list[tuple[int, int, bytes]]]:
     """The records of a capture of the plain form, all of them whole; None where it is none."""
     if not data.startswith(HEAD):
         return None
-    found, at = [], 24
-    while at + 16 <= len(data):
-        seconds, micros, stored, original = struct.unpack_from("<IIII", data, at)
-        if stored != original or at + 16 + stored > len(data):
-            break
-        found.append((seconds, micros, data[at + 16 : at + 16 + stored]))
-        at += 16 + stored
-    return found if at == len(data) else None
+    found = [(seconds, micros, frame) for seconds, micros, original, frame in captures.whole_records(data) if len(frame) == original]
+    return found if len(data) == len(HEAD) + sum(16 + len(it[2]) for it in found) else None
 
 
 def lines_of(mark: str, data: bytes) -> list[str]:
