@@ -1,6 +1,7 @@
 #!/usr/bin/env python3
-"""bench/text/rooms.py [TOP]: the table 'What each room may know' of docs/inside/ARCHITECTURE.md, compared with the crates.
+"""bench/text/rooms.py [write | TOP]: the table 'What each room may know' of docs/inside/ARCHITECTURE.md, and its picture of levels, compared with the crates.
 
+A crate stands one level above the highest that it names, by crates.txt; with `write` the picture is drawn anew from there.
 Each cell 'What it is' stands as the first sentence of the crate's README, which may have more in brackets. Each cell 'What it doesn't know' is a list
 of phrases, and PHRASES has what each of them means: crates, or modules of their definitions, that the crate's src, specs and proofs may not name, and
 words that its src may not have, both without remarks. A cell `all crates but ..` has the crates of this repository that the crate may name, and no other; PROCESS holds for each crate
@@ -65,6 +66,7 @@ PHRASES: dict[str, tuple[str, str]] = {
     "zones": ("zone_rules", ""),
 }
 TESTS = re.compile("_tests|_cases|case_|examples")  # in names of crates that are no rooms: tests, cases and examples
+PAGE = "docs/inside/ARCHITECTURE.md"
 ALL = "all "  # begins a cell that forbids all crates: `all crates but ..`, or `all other crates`
 
 
@@ -117,12 +119,32 @@ def first_sentence(readme: str) -> str:
     return re.split(r"\.(?:\s|$)", re.sub(r"\s\([^()]*\)", "", " ".join(readme.split("\n\n")[1].split())))[0]
 
 
+def levels(top: pathlib.Path) -> dict[str, int]:
+    """The level of each crate but those of tests, cases and examples."""
+    lines = re.findall(r"^(\w+)[^:#\n]*:(.*)$", (top / "crates.txt").read_text(encoding="utf-8"), re.M)
+    found: dict[str, int] = {}
+    for name, below in lines:  # each stands behind those that it names
+        found[name] = 1 + max((found[it] for it in below.split() if it in found), default=-1)
+    return {name: level for name, level in found.items() if not TESTS.search(name)}
+
+
+def picture(top: pathlib.Path) -> str:
+    """The levels from the program down, a line each, and a further one where a level has more crates than fit."""
+    found, drawn = levels(top), ""
+    for level in range(max(found.values()), -1, -1):
+        names = [it for it in found if found[it] == level]
+        drawn += "".join(f"{level if not at else '':>2}  {'  '.join(f'{it:<15}' for it in names[at : at + 6]).rstrip()}\n" for at in range(0, len(names), 6))
+    return f"```\n{drawn}```\n"
+
+
 def wrong(top: pathlib.Path) -> list[str]:
     """What rooms know that they may not, and cells that differ from the crate."""
     folders = {it.name: it for it in (top / "crates").iterdir() if (it / "src").is_dir()}
-    section = (top / "docs/inside/ARCHITECTURE.md").read_text(encoding="utf-8").split("## What each room may know")[1].split("\n## ")[0]
-    found, page = rows(section), "docs/inside/ARCHITECTURE.md"
-    said = [f"{page}: of {it} only the row or only the folder is there" for it in sorted(set(found) ^ {it for it in folders if not TESTS.search(it)})]
+    whole, page = (top / PAGE).read_text(encoding="utf-8"), PAGE
+    section = whole.split("## What each room may know")[1].split("\n## ")[0]
+    found = rows(section)
+    said = [] if picture(top) in whole else [f"{page}: the levels are others by crates.txt: bench/text/rooms.py write"]
+    said += [f"{page}: of {it} only the row or only the folder is there" for it in sorted(set(found) ^ {it for it in folders if not TESTS.search(it)})]
     said += [] if PROCESS[0] in section else [f"{page}: lacks the sentence '{PROCESS[0]}'"]
     used = {it for _, phrases in found.values() if not phrases[0].startswith(ALL) for it in phrases}
     said += [f"{page}: bench/text/rooms.py doesn't say what '{it}' means" for it in sorted(used - set(PHRASES))]
@@ -142,6 +164,10 @@ def wrong(top: pathlib.Path) -> list[str]:
 
 
 if __name__ == "__main__":
-    faults = wrong(pathlib.Path(sys.argv[1]) if sys.argv[1:] else pathlib.Path(__file__).resolve().parents[2])
+    TOP = pathlib.Path(__file__).resolve().parents[2]
+    if sys.argv[1:] == ["write"]:
+        text_ = (TOP / PAGE).read_text(encoding="utf-8")
+        (TOP / PAGE).write_text(re.sub(r"^```\n.*?^```\n", lambda _: picture(TOP), text_, count=1, flags=re.M | re.S), encoding="utf-8")
+    faults = wrong(pathlib.Path(sys.argv[1]) if sys.argv[1:] and sys.argv[1:] != ["write"] else TOP)
     print("\n".join(faults) or "the rooms are what the table says, and know no more")
     sys.exit(bool(faults))
