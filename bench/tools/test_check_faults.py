@@ -1,18 +1,25 @@
 """`look check` finds faults: each of faults.py is planted into a capture of both directions; and it says what it found in every form."""
 import json
+import os
 import pathlib
 import random
 import subprocess
 import xml.etree.ElementTree as ET
 from typing import Any
 
+import pytest
+from check_edits import Pick, drop, frame, header, payload, put, resized
+from check_edits import behind_fc as behind
 from checking import BROKEN, LOOK, OPEN, said_of, states
+from fault_edits import in_exchange, part, reused
 from faults import FAULTS, Fault
 from faults_known import OTHERWISE
 from good_runs import base_tapes
+from long_capture import long_capture
 from machine import slow
 from wear import WEARS
 
+from fcoe.check import talk
 from fcoe.frames.captures import write_classic
 
 BASES = base_tapes()
@@ -48,6 +55,53 @@ def test_some_faults() -> None:
 @slow
 def test_faults() -> None:
     assert table(FAULTS, "as it is") == {it.name: expected(it) for it in FAULTS}
+
+
+LATE = {
+    "crc": put(Pick("FCP_DATA", 100), behind(0), bytes(4), False),
+    "eof": put(Pick("FCP_CMND", 180), behind(4), b"\x41"),
+    "seq-cnt": in_exchange("FCP_DATA", 14, b"\0\0", 30, at_least=1),
+    "fcp-offset": in_exchange("FCP_DATA", 20, b"\0\0\x7f\0", 31, at_least=1),
+    "df-ctl": put(Pick("FCP_CMND", 181), header(13), b"\x40"),
+    "fcp-command": put(Pick("FCP_CMND", 182), payload(9), b"\3"),
+    "fcp-dl": put(part("FCP_CMND", 80, True), payload(28), b"\0\0\0\1"),
+    "source-mac": put(Pick("FCP_CMND", 185), frame(6), b"\x0e\xfc\0\1\1\7"),
+    "fcoe-vlan": put(Pick("FCP_CMND", 186), frame(14), b"\x60\xc8"),
+    "receive-size": resized(Pick("FCP_DATA", 103), lambda it: it + bytes(1024)),
+    "fcp-ready": drop(Pick("FCP_XFER_RDY", 80, True)),
+    "f-ctl-request": in_exchange("FCP_CMND", 9, b"\x28\0\0", 187),
+    "ox-id": reused(100, 0x010102),
+}
+
+
+def is_found_among_many(rule: str, monkeypatch: pytest.MonkeyPatch) -> bool:
+    """A single fault among many commands that are alike is found, whether or not alike ones are left out."""
+    tape = LATE[rule](list(long_capture(BASES["initiator"], 2500)))
+    found = []
+    for sifted in (0, len(tape)):
+        monkeypatch.setattr(talk, "SIFTED", sifted)
+        found.append(states(tape))
+    return found[0] == found[1] and (rule in found[0].get(BROKEN, ()) or rule == "ox-id")
+
+
+def test_long_capture(monkeypatch: pytest.MonkeyPatch) -> None:
+    assert is_found_among_many("crc", monkeypatch) and is_found_among_many("ox-id", monkeypatch)
+
+
+@slow
+def test_long_captures(monkeypatch: pytest.MonkeyPatch) -> None:
+    assert [it for it in LATE if not is_found_among_many(it, monkeypatch)] == []
+
+
+@slow
+def test_a_million(tmp_path: pathlib.Path) -> None:
+    """`look check` stays within 200 MiB."""
+    file = str(tmp_path / "long.pcap")
+    write_classic(file, long_capture(BASES["initiator"], 1_000_000))
+    with subprocess.Popen([LOOK, "check", "--quiet", file], stdout=subprocess.DEVNULL) as ran:
+        _, status, used = os.wait4(ran.pid, 0)
+        ran.returncode = os.waitstatus_to_exitcode(status)
+    assert ran.returncode == 0 and used.ru_maxrss < 200 << 10
 
 
 def test_outputs(tmp_path: pathlib.Path) -> None:

@@ -14,7 +14,7 @@ RULES = Group("addresses", is_across=True)
 
 def uses(talk: Talk) -> Iterator[Shown]:
     """Frames that the ENode sends as an N_Port: FCoE, and keep alives of VN_Ports."""
-    return (it for it in talk.own if it.heard.is_fcoe and it.fc is not None and it.fc.s_id or it.heard.kind == "VN_Port keep alive" and it.heard.source != talk.mac)
+    return iter(talk.uses)
 
 
 @RULES.rule("fpma-granted", "FC-BB-5, fabric-provided MAC addresses", "An N_Port sends from a MAC that was granted, and not before.")

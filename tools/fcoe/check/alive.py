@@ -9,6 +9,7 @@ from .talk import PERIODS, Shown, Talk, mac_in, period_in, vx_in
 PORT_PERIOD = 90_000  # FKA_VN_PERIOD in milliseconds
 LATE = 1.5  # periods behind which one may be missing from the capture
 SURE = 4.5  # periods without one, behind which it isn't two that are lost
+OFTEN = 0.35  # periods from one to the next, below which that is more than asked for
 HABIT = 4  # late keep alives, from which on it's no accident
 BOTH = ("Keep alive", "VN_Port keep alive")
 RULES = Group("keep alives")
@@ -151,6 +152,17 @@ def quiet(talk: Talk, tally: Tally) -> None:
         if period and period[1] and talk.live(told.at):
             sent = [it for it in talk.of(*BOTH) if told.at < it.at < after and it.heard.destination == told.heard.source]
             tally.usual(sent[0] if sent else told, want("keep alives after D", len(sent), 0))
+
+
+@RULES.rule("alive-often", "FC-BB-5, FIP keep alive, FKA_ADV_PERIOD", "An ENode sends no more than two or three a period.", is_choice=True)
+def often(talk: Talk, tally: Tally) -> None:
+    beats = list(talk.of("Keep alive"))
+    for before, it in zip(beats, beats[1:]):
+        period = advertised_period(talk, it.heard.destination, before.clock, it.clock)
+        if period and it.heard.destination == before.heard.destination and it.clock - before.clock < OFTEN * period:
+            tally.usual(it, Fault("keep alives", f"one {(it.clock - before.clock) / 1000:.1f} s after frame {before.place}", f"one each {period / 1000:g} s"))
+            return
+    tally.held += beats[1:]
 
 
 @RULES.rule("alive-vlan", "FC-BB-5, FIP keep alive; IEEE 802.1Q", "Keep alives go out in the VLAN of the login.")

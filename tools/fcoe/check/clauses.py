@@ -26,7 +26,7 @@ CHAPTERS = (
     ("IEEE 802.1Q", "", "9"),
     ("IEEE 802.3", "", "3"),
 )
-OF_CHOICE = {"vlan-request-again": MAY, "solicitation-again": MAY, "login-again": MAY, "alive-quiet": MAY, "scr-sent": MAY, "register-own": MAY, "vlan-request-tag": MAY, "cs-ctl": MAY}
+OF_CHOICE = {"vlan-request-again": MAY, "solicitation-again": MAY, "login-again": MAY, "alive-quiet": MAY, "alive-often": MAY, "scr-sent": MAY, "register-own": MAY, "vlan-request-tag": MAY, "cs-ctl": MAY}
 
 
 def word_of(name: str, is_choice: bool) -> str:

@@ -18,11 +18,12 @@ from ..terminal import Colour, folded, painted
 from ..waivers import Waiver, today
 from . import address, alive, answers, discovery, exchange, forwarder, frames, headers, login, names, storage
 from .rules import BROKEN, ENODE, FCF, HELD, OPEN, STATES, UNSEEN, Group, Rule, Tally, held_against
-from .talk import Shown, Talk, talks_on, whole_of
+from .talk import Shown, Talk, shown_of, talks_on, whole_of
 
 GROUPS: list[Group] = [it.RULES for it in (discovery, login, address, alive, frames, headers, exchange, answers, storage, names, forwarder)]
 COLOURS = {BROKEN: Colour.BAD, OPEN: Colour.MIND, HELD: Colour.GOOD, UNSEEN: Colour.NOISE}
 SHOWN = 5  # frames of a rule that a terminal shows
+LEFT_OUT = "{} of commands are left out, as each is alike to one that is looked at, so counts are of fewer frames"
 Row = dict[str, Any]
 
 
@@ -80,12 +81,13 @@ def check(ports: Sequence[Port]) -> Checked:
     """Holds the frames of all ports against the rules: those of each ENode, and of the forwarder where its frames are there."""
     found = Checked(ports=list(ports))
     for port in ports:
-        for talk in talks_on(port):
+        shown = list(shown_of(port))
+        for talk in talks_on(port, shown):
             PROGRESS.say(f"port {port.number}: {talk.label} is held against the rules")
             found.found += judged(talk, ENODE)
         if port.replies:
             mac = next((it.heard.source for it in port.frames.used() if it.heard.is_fabric and port_sends(port, it.heard.source)), b"")
-            found.found += judged(whole_of(port, mac), FCF)
+            found.found += judged(whole_of(port, mac, shown), FCF)
     return found
 
 
@@ -143,7 +145,7 @@ def row_of(it: Found) -> Row:
 def capture_row(port: Port) -> Row:
     """What the tap did to a capture, and what of it couldn't be taken out."""
     tidy = port.tidy
-    return {"port": port.number, "capture": port.label, "found": tidy.lines, "cut": tidy.cut, "missing": [it.what for it in tidy.holes], "is_order_guessed": tidy.is_askew}
+    return {"port": port.number, "capture": port.label, "found": tidy.lines, "cut": tidy.cut, "missing": [it.what for it in tidy.holes], "is_order_guessed": tidy.is_askew, "left_out": port.left_out}
 
 
 def as_data(found: Checked) -> Row:
@@ -244,6 +246,7 @@ def text_of(found: Checked, is_all: bool = False) -> list[str]:
     """For a terminal: what the tap did, what is broken, what can't be told, and what was held by groups."""
     lines = [origin_text(found.origin)] if found.origin else []
     lines += [line for port in found.ports for said in port.tidy.lines for line in folded(f"port {port.number}: {said}", "")]
+    lines += [line for port in found.ports if port.left_out for line in folded(f"port {port.number}: {LEFT_OUT.format(counted(port.left_out, 'frame'))}", "")]
     for talk, rows in found.by_whom():
         first = int(talk.frames[0].clock) if talk.frames else 0
         directions = "both directions" if talk.is_two_way else "its direction alone"

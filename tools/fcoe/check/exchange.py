@@ -12,6 +12,7 @@ QUERY_PATIENCE = 3 * R_A_TOV  # of a request of the name server
 QUERIES = ("GA_NXT", "GPN_ID", "GNN_ID", "GFT_ID", "GFF_ID", "GID_PN", "GID_FT", "GPN_FT", "GNN_FT", "GID_PT", "ADISC", "PLOGI")
 SOON = 10_000  # milliseconds after an RSCN within which a host that asks has asked
 BLS_SIZES = {0x81: 0, 0x84: 12, 0x85: 4}
+COUNTED = 20  # requests from which on a host's OX_IDs tell how it takes them
 RULES = Group("exchanges", is_across=True)
 
 
@@ -269,6 +270,14 @@ def aborts(talk: Talk, tally: Tally) -> None:
         tally.judge(it, want("payload", f"{len(fc.payload)} bytes", f"{size} bytes", len(fc.payload) == size))
 
 
+def is_unused(talk: Talk, it: Shown, ox_id: int) -> bool:
+    """Whether an ENode whose OX_IDs go up one by one hadn't come to this one before a frame."""
+    used = [fc.ox_id for one, fc in own_requests(talk, 0x22, 0x02, 0x06) if one.request.at < it.at and one.request.heard.is_fcoe]
+    steps = [two - one for one, two in zip(used, used[1:])]
+    goes_up = len(steps) >= COUNTED and sum(0 < step <= 2 for step in steps) > 0.9 * len(steps)
+    return goes_up and not min(used) - COUNTED <= ox_id <= max(used) + COUNTED
+
+
 @RULES.rule("abts-exchange", "FC-FS-3, ABTS", "An ABTS is of an exchange that there is.")
 def abts_known(talk: Talk, tally: Tally) -> None:
     for it, fc in talk.in_fcoe():
@@ -277,8 +286,10 @@ def abts_known(talk: Talk, tally: Tally) -> None:
                 tally.held.append(it)
             elif not talk.grant_of(it.heard.source, it.at):
                 tally.leave(ONE_WAY if not talk.is_two_way else "its exchange may have begun before the capture", it)
-            else:
+            elif is_unused(talk, it, fc.ox_id):
                 tally.lack((fc.s_id, fc.d_id, fc.ox_id), it, Fault("OX_ID", f"{fc.ox_id:04x}", f"that of an exchange with {fcid(fc.d_id)}"))
+            else:
+                tally.leave("the request that it aborts may have been lost before it came to the tap", it)
 
 
 @RULES.rule("abts-answered", "FC-FS-3, ABTS", "An ABTS is answered by BA_ACC or BA_RJT.")

@@ -51,8 +51,14 @@ class Task:
             self.response = it
 
 
-def tasks(talk: Talk) -> Iterator[Task]:
-    """All commands whose FCP_CMND is there, whole."""
+def tasks(talk: Talk) -> list[Task]:
+    """All commands whose FCP_CMND is there, whole, told once."""
+    found: list[Task] = talk.told.get("tasks") or list(told_tasks(talk))
+    talk.told["tasks"] = found
+    return found
+
+
+def told_tasks(talk: Talk) -> Iterator[Task]:
     for one in talk.exchanges.all:
         fc = one.request.fc
         if fc is None or fc.kind != FCP or fc.r_ctl != COMMAND or len(fc.payload) < COMMAND_SIZE:
@@ -133,26 +139,24 @@ def asked_for(talk: Talk, tally: Tally) -> None:
 
 
 def judge_asked(task: Task, own_data: list[tuple[Shown, Fc]], tally: Tally) -> None:
-    """Each frame lies in what the latest FCP_XFER_RDY asked for."""
-    within: Optional[tuple[int, int]] = None  # the sequence that began in the burst, and where that is
+    """Each frame lies in what one FCP_XFER_RDY before it asked for; of a target that got a frame twice the next one may come early."""
+    within: Optional[tuple[int, int]] = None  # the sequence that began in a burst, and the latest FCP_XFER_RDY then
     for it, fc in own_data:
-        before = [(one, head) for one, head in task.ready if one.at < it.at and len(head.payload) >= 8]
+        bursts = [(one, number(head.payload[:4]), number(head.payload[4:8])) for one, head in task.ready if one.at < it.at and len(head.payload) >= 8]
         at, sequence = offset_of(fc) or 0, fc.data[fc.at + 12]
-        if not before:
+        if not bursts:
             fault = Fault("FCP_DATA", "before any FCP_XFER_RDY", "behind one that asks for it")
             if task.ready:
                 tally.judge(it, fault)
             else:
                 tally.lack(task.one, it, fault)
             return
-        begin = number(before[-1][1].payload[:4])
-        end = begin + number(before[-1][1].payload[4:8])
-        is_inside = begin <= at and at + size_of(fc) <= end
-        fault = Fault("FCP_DATA", f"bytes {at} to {at + size_of(fc)}", f"{begin} to {end}, as FCP_XFER_RDY of frame {before[-1][0].place} asks")
-        if is_inside:
-            within = sequence, before[-1][0].at
+        ready, begin, size = bursts[-1]
+        fault = Fault("FCP_DATA", f"bytes {at} to {at + size_of(fc)}", f"{begin} to {begin + size}, as FCP_XFER_RDY of frame {ready.place} asks")
+        if any(first <= at and at + size_of(fc) <= first + count for _, first, count in bursts):
+            within = sequence, ready.at
             tally.held.append(it)
-        elif within == (sequence, before[-1][0].at) or begin <= at < end:
+        elif within == (sequence, ready.at) or begin <= at < begin + size:
             tally.judge(it, fault)
         else:
             tally.lack(task.one, it, fault)

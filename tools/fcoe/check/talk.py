@@ -3,7 +3,7 @@ from bisect import bisect_left, bisect_right
 from dataclasses import dataclass, field
 from functools import cached_property
 from itertools import accumulate
-from typing import ClassVar, Hashable, Iterator, Optional, Sequence
+from typing import Any, ClassVar, Hashable, Iterator, Optional, Sequence
 
 from ..frames.columns import MILLISECOND
 from ..frames.heard import ADVERTISE, ALL_ENODES, CLEAR, KEEP_ALIVE, LOGIN, LOGIN_REPLY, Fc, Heard, colons, granted_in, hear, login_names, number
@@ -11,8 +11,10 @@ from ..progress import PROGRESS
 from ..runs.configs import FPMA
 from ..runs.enodes import enodes_of
 from ..runs.inputs import Port
+from .sieve import Sieve
 
-KEPT = 100_000  # frames of a port up to which data frames stay decoded
+SIFTED = 20_000  # frames of a port from which on alike ones are left out
+KEPT = 50_000  # frames that are looked at, up to which they stay decoded
 RESPONDER, LAST_SEQUENCE, END_SEQUENCE = 0x800000, 0x100000, 0x080000
 REQUESTS = (0x22, 0x02, 0x06)  # R_CTL of what begins an exchange: a link service, a CT_IU, an FCP command
 ANSWERS_TO_ABTS, ACKNOWLEDGES = ("BA_ACC", "BA_RJT"), 0xC0
@@ -229,7 +231,7 @@ class Exchanges:
         if found is None:
             return
         self.of_frame[it.at] = found
-        is_doubled = any(is_alike(it, one) for one in found.frames)
+        is_doubled = is_end(it) and any(is_alike(it, one) for one in found.frames)
         found.frames.append(it)
         fc = it.heard.fc
         is_reply = fc is not None and bool(fc.f_ctl & RESPONDER) if it.heard.is_fcoe else it.heard.operation == LOGIN_REPLY
@@ -253,6 +255,7 @@ class Talk:
         self.own = [it for it in frames if not it.is_switch]
         self.theirs = [it for it in frames if it.is_switch]
         self.grants: list[Grant] = []
+        self.told: dict[str, Any] = {}  # what rules of one subject have in common
         for it in frames:
             self.take(it)
 
@@ -299,7 +302,19 @@ class Talk:
 
     def in_fcoe(self) -> Iterator[tuple[Shown, Fc]]:
         """The ENode's frames in FCoE."""
-        return ((it, it.heard.fc) for it in self.own if it.heard.is_fcoe and it.heard.fc is not None)
+        for it in self.own_fcoe:
+            fc = it.heard.fc
+            if fc is not None:
+                yield it, fc
+
+    @cached_property
+    def uses(self) -> list[Shown]:
+        """What the ENode sends as an N_Port: FCoE, and keep alives of VN_Ports."""
+        return [it for it in self.own if it.heard.is_fcoe and it.fc is not None and it.fc.s_id or it.heard.kind == "VN_Port keep alive" and it.heard.source != self.mac]
+
+    @cached_property
+    def own_fcoe(self) -> list[Shown]:
+        return [it for it in self.own if it.heard.is_fcoe]
 
     def take(self, it: Shown) -> None:
         """Takes what grants and ends addresses."""
@@ -389,7 +404,7 @@ class Talk:
     @property
     def accounted(self) -> int:
         """Frames whose loss would be seen: those of sequences and discovery, and of exchanges that were answered."""
-        return self.port.tidy.accounted + sum(len(it.frames) for it in self.exchanges.all if it.reply is not None)
+        return self.port.tidy.accounted + self.port.left_out * self.is_two_way + sum(len(it.frames) for it in self.exchanges.all if it.reply is not None)
 
     @cached_property
     def signs(self) -> list[Sign]:
@@ -494,23 +509,27 @@ class Owners:
 
 
 def shown_of(port: Port) -> Iterator[Shown]:
-    """The frames of a fabric on a port, in their order."""
+    """The frames of a fabric on a port, in their order; in a long capture without most of those that are alike."""
     frames = port.frames
     is_ours = [it.heard.is_fabric for it in frames.flows]
-    own = set(port.replies)
-    keep = len(frames) <= KEPT
+    own = {frames.flow_of[at] for at in port.replies}
+    sieve = Sieve(frames, any(not frames.flows[it].heard.destination[0] & 1 for it in own))
+    taken = sieve.sifted() if len(frames) > SIFTED else b"\1" * len(frames)
+    port.left_out = sieve.left_out
+    keep = sum(taken) <= KEPT
     times: Iterator[int] = accumulate(frames.moments, max)
     for at, moment in enumerate(times):
-        if is_ours[frames.flow_of[at]]:
-            it = Shown(port, at, moment / MILLISECOND, at in own)
+        flow = frames.flow_of[at]
+        if taken[at] and is_ours[flow]:
+            it = Shown(port, at, moment / MILLISECOND, flow in own)
             yield it.keep() if keep else it
         if at % 4096 == 0:
             PROGRESS.say(f"{port.label}: {at:,} frames decoded")
 
 
-def talks_on(port: Port) -> list[Talk]:
+def talks_on(port: Port, shown: Optional[list[Shown]] = None) -> list[Talk]:
     """What each ENode of a port and the switch said to each other."""
-    owners, frames = Owners(port), list(shown_of(port))
+    owners, frames = Owners(port), list(shown_of(port)) if shown is None else shown
     by_enode: dict[bytes, list[Shown]] = {}
     for it in frames:
         if not it.is_switch:
@@ -526,11 +545,6 @@ def talks_on(port: Port) -> list[Talk]:
     return [Talk(port, mac, names.get(mac, b""), some) for mac, some in by_enode.items()]
 
 
-def whole_of(port: Port, mac: bytes) -> Talk:
+def whole_of(port: Port, mac: bytes, shown: Optional[list[Shown]] = None) -> Talk:
     """All frames of the fabric on a port, as rules on the switch are judged over."""
-    return Talk(port, mac, b"", list(shown_of(port)))
-
-
-def all_talks(ports: Sequence[Port]) -> Iterator[Talk]:
-    for port in ports:
-        yield from talks_on(port)
+    return Talk(port, mac, b"", list(shown_of(port)) if shown is None else shown)

@@ -87,7 +87,7 @@ class Fc:
     end: int
 
     def _field(self, place: int, size: int) -> int:
-        return number(self.data[self.at + place : self.at + place + size])
+        return int.from_bytes(self.data[self.at + place : self.at + place + size], "big")
 
     @property
     def r_ctl(self) -> int:

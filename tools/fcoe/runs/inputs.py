@@ -35,6 +35,7 @@ class Port:
     host_messages: Sequence[int] = ()
     switch_messages: Sequence[int] = ()
     tidy: Tidy = field(default_factory=Tidy)
+    left_out: int = 0  # frames that `look check` left out, as others are alike
 
     def divide(self, switches: set[bytes]) -> None:
         """Tells the switch's own frames from those of hosts, and FIP, link services and CT of both from data."""
