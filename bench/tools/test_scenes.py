@@ -1,7 +1,4 @@
-"""tools/scenes over tools/fcoe_host in network namespaces, as root; what makes a verdict is tried without them.
-
-After a change of the scenes `python3 bench/tools/test_scenes.py PROGRAM` writes the table that is printed into docs/SCENES.md.
-"""
+"""tools/scenes over tools/fcoe_host in network namespaces, as root; what makes a verdict is tried without them."""
 import concurrent.futures
 import json
 import os
@@ -30,7 +27,6 @@ from fcoe.scenes.playing import Outcome, Play
 SCENES, HOST, PAGE = str(TOP / "tools/scenes"), str(TOP / "tools/fcoe_host"), TOP / "docs/SCENES.md"
 FIRST, SECOND = f"20:00:{HOST_MAC}", f"21:01:{HOST_MAC}"
 BLOCK = re.compile(r"^```\w*\n(.*?)^```$", re.S | re.M)
-TABLE = re.compile(r"```\nscene  .*?\n```\n", re.S)
 BESIDE = 3
 SLACK = "2"
 # the scene that finds a fault, and words of the step that isn't held
@@ -80,26 +76,11 @@ def scenes(tool: str, room: pathlib.Path, *words: str, status: int = 0) -> str:
 # ---- parts
 
 
-def table_of(tool: str, room: pathlib.Path) -> str:
-    """The table over the host as it is."""
-    said = scenes(tool, room / "right", "--jobs", str(BESIDE))
-    count = len(scenes_of([]))
-    wanted(f"all scenes are passed: {said}", said.strip().endswith(f"{count} scenes: {count} passed"))
-    return said.strip()
-
-
 def right(tool: str, room: pathlib.Path) -> str:
-    said = table_of(tool, room)
-    found = TABLE.search(PAGE.read_text(encoding="utf-8"))
-    wanted("docs/SCENES.md has the table that is printed: `python3 bench/tools/test_scenes.py PROGRAM` writes it", found and found[0] == f"```\n{said}\n```\n")
-    return said.rpartition("\n")[2]
-
-
-def page(tool: str, room: pathlib.Path) -> str:
-    said = table_of(tool, room)
-    text, count = TABLE.subn(lambda _: f"```\n{said}\n```\n", PAGE.read_text(encoding="utf-8"))
-    wanted("docs/SCENES.md has one table", count == 1)
-    PAGE.write_text(text, encoding="utf-8")
+    """All scenes over the host as it is."""
+    said = scenes(tool, room / "right", "--jobs", str(BESIDE)).strip()
+    count = len(scenes_of([]))
+    wanted(f"all scenes are passed: {said}", said.endswith(f"{count} scenes: {count} passed"))
     return said.rpartition("\n")[2]
 
 
@@ -258,7 +239,7 @@ class Scenes(unittest.TestCase):
 
     @slow
     def test_right(self) -> None:
-        """The host as it is passes all scenes, and docs/SCENES.md has the table that is printed."""
+        """The host as it is passes all scenes."""
         right(program(), self.room)
 
     @slow
@@ -280,9 +261,3 @@ class Scenes(unittest.TestCase):
     def test_tap(self) -> None:
         """The words of docs/SCENES.md for a tap device, with the host at its other end; commands that can't begin one."""
         tap(program(), self.room)
-
-
-if __name__ == "__main__":
-    os.environ["FCOE_TOOL"] = os.path.realpath(sys.argv[1])
-    with tempfile.TemporaryDirectory(dir="/var/tmp", prefix="scenes-") as made:
-        print(page(program(), pathlib.Path(made)))
