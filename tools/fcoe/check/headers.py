@@ -4,7 +4,7 @@ from typing import Iterator, Optional
 from ..frames.fields import delimiter
 from ..frames.heard import SOFI3, SOFN3, Fc, fc_check, fcid, number
 from .rules import Group, Tally, want
-from .talk import END_SEQUENCE, LAST_SEQUENCE, RESPONDER, Shown, Talk
+from .talk import ACKNOWLEDGES, END_SEQUENCE, LAST_SEQUENCE, RESPONDER, Shown, Talk
 
 SOFI2, SOFN2, EOFN, EOFT, EOFA = 0x2D, 0x35, 0x41, 0x42, 0x50
 INITIATIVE, OFFSET_HELD = 0x010000, 0x000008
@@ -33,10 +33,11 @@ def classed(talk: Talk, tally: Tally) -> None:
     starts = {SOFI3, SOFN3, *((SOFI2, SOFN2) if has_class2(talk) else ())}
     for it, fc in whole(talk):
         start, end = it.heard.data[it.heard.at + 13], it.heard.data[it.heard.eof_at]
+        is_answer = start == SOFN2 and fc.r_ctl & 0xF0 == ACKNOWLEDGES  # of class 2 frames that came, which is their sender's doing
         is_sound = it.heard.data[fc.end : fc.end + 4] == fc_check(it.heard.data[fc.at : fc.end])
         tally.judge(
             it,
-            want("SOF", delimiter(start), "of class 3, or of class 2 where the FLOGI offers it", start in starts or delimiter(start) == f"{start:02x}"),
+            want("SOF", delimiter(start), "of class 3, or of class 2 where the FLOGI offers it", start in starts or is_answer or delimiter(start) == f"{start:02x}"),
             want("EOF", delimiter(end), "EOFn or EOFt", end in (EOFN, EOFT) or delimiter(end) == f"{end:02x}" or end == EOFA and not is_sound),
         )
 

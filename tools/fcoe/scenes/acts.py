@@ -3,7 +3,7 @@ from typing import Callable
 
 from ..host.asking import Asked
 from ..host.enode import ENode
-from ..host.speech import ABORT, ADISC, ECHO, Head, accept, address_discovery, login_payload, logout, three
+from ..host.speech import ABORT, ADISC, ECHO, PLOGI, Head, accept, address_discovery, login_payload, logout, three
 from .script import Peer
 
 ELS, BLS = 0x01, 0x00
@@ -91,6 +91,7 @@ ABORTS = Peer("sends ABTS of an exchange that isn't open", aborts)
 ABORTS_OPEN = Peer("sends ABTS of its latest command", aborts_open)
 ASKS_ADISC = Peer("sends ADISC", asks_own(lambda peer: address_discovery(ADISC, *own_names(peer))))
 ASKS_PDISC = Peer("sends PDISC", asks_own(lambda peer: login_payload(PDISC, *own_names(peer)[1:])))
+ASKS_PLOGI = Peer("sends PLOGI", asks_own(lambda peer: login_payload(PLOGI, *own_names(peer)[1:])))
 ASKS_RTV = Peer("sends RTV", asks(bytes([RTV, 0, 0, 0])))
 ASKS_RLS = Peer("sends RLS", asks_own(lambda peer: bytes([RLS, 0, 0, 0, 0]) + three(own_names(peer)[0])))
 ASKS_REC = Peer("sends REC", asks_own(lambda peer: bytes([REC, 0, 0, 0, 0]) + three(own_names(peer)[0]) + OPEN_NOWHERE.to_bytes(2, "big") + b"\xff\xff"))

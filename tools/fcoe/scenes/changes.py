@@ -1,5 +1,5 @@
 """What the wire may rewrite in a frame of the forwarder."""
-from ..frames.heard import Heard, hear
+from ..frames.heard import Heard, fc_check, hear
 from .script import Change, changed
 
 
@@ -98,6 +98,31 @@ def rejected(reason: int, explanation: int) -> Change:
         mac = bytes([2, 2]) + bytes(6)
         body = frame[: heard.at + 6] + (len(head + mac) // 4).to_bytes(2, "big") + frame[heard.at + 8 : heard.at + 10] + head + mac
         return body.ljust(60, b"\0")
+
+    return change
+
+
+def in_payload(place: int, data: bytes) -> Change:
+    """Bytes of the payload of an FC frame, which has its right CRC again."""
+
+    def change(frame: bytes) -> bytes:
+        fc = hear(frame).fc
+        if fc is None or fc.payload_at + place + len(data) > fc.end:
+            return frame
+        made = changed(frame, fc.payload_at + place, data)
+        return changed(made, fc.end, fc_check(made[fc.at : fc.end]))
+
+    return change
+
+
+def with_port(place: int) -> Change:
+    """Clear Virtual Links that lists one N_Port of those that it has."""
+
+    def change(frame: bytes) -> bytes:
+        heard = hear(frame)
+        ports = [it.data for it in heard.descriptors if it.kind == 11]
+        kept = b"".join(it.data for it in heard.descriptors if it.kind != 11 or it.data in ports[place:][:1])
+        return changed(frame[: heard.at + 10] + kept, heard.at + 6, (len(kept) // 4).to_bytes(2, "big")).ljust(60, b"\0")
 
     return change
 

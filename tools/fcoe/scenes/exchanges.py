@@ -1,7 +1,7 @@
 """Exchanges with another N_Port: PLOGI, PRLI, commands, link services, ABTS."""
 from ..frames.heard import Heard
 from .acts import ABORTS, ASKS_STRANGE, ECHOES, LOGS_OUT, REFUSES, REFUSES_PRLI
-from .changes import wrong_check
+from .changes import in_payload, wrong_check
 from .holding import AT_PEER, COMMAND, FABRIC_LOGIN, FIRST, FLOGI, IN_FABRIC, LATER, LINK_SERVICE, NEW_OX_ID, PRLI_PEER, answers, stays, upto_peer
 from .script import FCOE, Astray, Begin, Holds, Like, Lose, Never, Rewrite, Scene, Setup, Wait, Want, World, kind
 
@@ -11,6 +11,7 @@ RECEIVE = 512
 IN_EXCHANGE = (*IN_FABRIC, NEW_OX_ID)
 BASIC = Like(("BA_ACC", "BA_RJT"), to="peer", of="host", words="BA_ACC or BA_RJT to the peer")
 USES = Like(("PRLI", "FCP_CMND", "FCP_DATA"), to="peer", of="host", words="PRLI or FCP to the peer")
+GIVES_UP = Like(("ABTS", "REC", "LOGO"), to="peer", words="ABTS, REC or LOGO to the peer")
 STORAGE = Like(("FCP_CMND", "FCP_DATA"), to="peer", of="host", words="FCP to the peer")
 REPLY = Like(("LS_ACC", "LS_RJT"), to="peer", of="host", words="LS_ACC or LS_RJT to the peer")
 
@@ -55,6 +56,31 @@ SCENES = (
         f"{PLOGI}: receive data field size",
         (*upto_peer(), Want(kind("FCP_DATA", to="peer", of="host"), LATER, (*IN_FABRIC, Holds("512 bytes of payload at most", is_small)), 8)),
         Setup(peer="there", receive=RECEIVE),
+        COMMANDS,
+    ),
+    *(
+        Scene(
+            name,
+            f"{what}: the host ends that command by ABTS (or asks by REC, or logs out), and goes on.",
+            "FCP-4, error detection and recovery",
+            (*upto_peer(), Begin(bend), Want(GIVES_UP, 90, IN_FABRIC), Want(COMMAND, 60, IN_EXCHANGE)),
+            THERE,
+            COMMANDS,
+        )
+        for name, what, bend in (
+            ("command-lost", "A command is lost", Lose(COMMAND, 1, from_host=True)),
+            ("response-lost", "A response is lost", Lose(kind("FCP_RSP"), 1)),
+            ("response-broken", "The CRC of a response is wrong", Rewrite(wrong_check, "the CRC is wrong", kind("FCP_RSP"), 1)),
+            ("ready-lost", "What asks for data is lost", Lose(kind("FCP_XFER_RDY"), 1)),
+            ("data-lost", "Data of a write are lost", Lose(kind("FCP_DATA", to="peer"), 1, from_host=True)),
+        )
+    ),
+    Scene(
+        "target-busy",
+        "The peer is busy (status 08) for three commands: the host goes on, each command in an exchange of its own.",
+        "FCP-4, FCP_RSP; SAM, BUSY",
+        (*upto_peer(), Begin(Rewrite(in_payload(11, b"\x08"), "status 08", kind("FCP_RSP"), 3)), Want(COMMAND, 60, IN_EXCHANGE, 5), stays(1)),
+        THERE,
         COMMANDS,
     ),
     Scene(

@@ -1,13 +1,15 @@
 """Keep alives, and a forwarder that falls silent."""
-from .changes import period
+from .changes import in_descriptor, period
 from .holding import ADVERTISED_ALL, ALIVE, FABRIC_LOGIN, FIRST, FLOGI, FROM_ENODE, IN_VLAN, PORT_ALIVE, PORT_KEEP, TO_FORWARDER, quiet, stays, upto_login
-from .script import ANY, Again, Begin, Like, Lose, Never, OtherMac, Scene, Setup, Spaced, Straight, Wait, Want, kind
+from .script import ANY, Again, Begin, Like, Lose, Never, OtherMac, Rewrite, Scene, Setup, Spaced, Straight, Wait, Want, kind
 
 SOURCE, SILENCE = "FC-BB-5, FIP keep alive", "FC-BB-5, FIP discovery: 2.5 periods without an advertisement"
 OTHER = bytes.fromhex("00051e0000ee")
 LOOKS = Like(("Solicitation", "VLAN request"), words="solicitation or VLAN request")
 KEEPS = Like(("Keep alive", "VN_Port keep alive"), words="keep alive")
 BEATS = Want(ALIVE, FIRST, (IN_VLAN, TO_FORWARDER, FROM_ENODE))
+QUIET = in_descriptor(12, 3, b"\x01")
+CUT = (Begin(Lose(ANY)), Begin(Lose(ANY, from_host=True)), Wait(0.8), Straight(), Wait(2))
 
 SCENES = (
     Scene("keep-alive", "The period is a second: keep alives come each second.", SOURCE, (*upto_login(), BEATS, Spaced(ALIVE, 6, 0.3, 1.6))),
@@ -33,6 +35,22 @@ SCENES = (
         SOURCE,
         (*upto_login(), Want(PORT_KEEP, 95, (IN_VLAN, TO_FORWARDER, PORT_ALIVE))),
     ),
+    Scene(
+        "quiet",
+        "Advertisements say by D that no keep alives are owed: the host logs in, and stays.",
+        "FC-BB-5, FIP discovery: D",
+        (*upto_login(), stays(5)),
+        Setup(period=3000, bends=(Rewrite(QUIET, "D is set", kind("Advertisement")),)),
+    ),
+    Scene(
+        "quiet-for-a-while",
+        "D is set for some seconds, and cleared: the host stays, and its keep alives come.",
+        "FC-BB-5, FIP discovery: D",
+        (*upto_login(), BEATS, Begin(Rewrite(QUIET, "D is set", kind("Advertisement"))), stays(4), Straight(), Want(ALIVE, FIRST, (IN_VLAN, TO_FORWARDER, FROM_ENODE), 2)),
+        Setup(period=3000),
+    ),
+    Scene("cut-short", "Nothing arrives either way for less than a second: the host stays.", SILENCE, (*upto_login(), BEATS, *CUT, stays(5)), Setup(period=2000)),
+    Scene("cut-thrice", "Thrice nothing arrives either way for less than a second: the host stays.", SILENCE, (*upto_login(), BEATS, *CUT, *CUT, *CUT, stays(4)), Setup(period=2000)),
     Scene("advertisement-lost", "One advertisement is lost: the host stays.", SILENCE, (*upto_login(), Wait(2.5), Begin(Lose(ADVERTISED_ALL, 1)), stays(6))),
     Scene(
         "forwarder-silent",

@@ -92,7 +92,14 @@ SCENES = (
             (Want(FLOGI, FIRST, FABRIC_LOGIN), Want(FLOGI, 60, FABRIC_LOGIN, without=FCOE), Want(AT_NAMES, LATER, IN_FABRIC)),
             Setup(peer="none", bends=(Rewrite(rejected(reason, 0), f"LS_RJT {reason:02X}", ACCEPTED, 1),)),
         )
-        for name, reason, words in (("logical", 0x03, "logical error"), ("busy", 0x05, "logical busy"), ("protocol", 0x07, "protocol error"), ("unable", 0x09, "unable to perform"))
+        for name, reason, words in (("command", 0x01, "invalid command"), ("logical", 0x03, "logical error"), ("busy", 0x05, "logical busy"), ("protocol", 0x07, "protocol error"), ("unable", 0x09, "unable to perform"), ("unknown", 0x0B, "command not supported"), ("vendor", 0xFF, "a vendor's own"))
+    ),
+    Scene(
+        "accept-small",
+        "The accept of the FLOGI has a receive size of 256: the host sends no more to the fabric at once.",
+        "FC-LS-2, FLOGI: receive data field size",
+        (*upto_login(), stays(4)),
+        Setup(peer="none", bends=(Rewrite(in_descriptor(7, 38, b"\x01\x00"), "a receive size of 256", ACCEPTED),)),
     ),
     *(
         Scene(

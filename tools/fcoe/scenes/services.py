@@ -1,10 +1,10 @@
 """The name server, and the fabric's notices (RSCN)."""
 from ..frames.heard import CONTROLLER, NAME_SERVER
 from .acts import STARTS, STOPS
-from .changes import wrong_check
+from .changes import both, in_payload, wrong_check
 from .holding import AT_NAMES, AT_PEER, FABRIC_LOGIN, FIRST, FLOGI, IN_FABRIC, LATER, LINK_SERVICE, NEW_OX_ID, OWN_ADDRESS
 from .holding import PRLI_PEER, QUERIES, REGISTERS, TO_PEER, WATCHES, WITH_FCP, answers, is_of_peer, stays, upto_login, upto_peer, upto_watching
-from .script import All, Begin, Like, Lose, Never, Rewrite, Scene, Setup, Twice, Want, kind
+from .script import All, Begin, Late, Like, Lose, Never, Rewrite, Scene, Setup, Twice, Want, kind
 
 NAMES, NOTICES = "FC-GS-6, name server", "FC-LS-2, RSCN"
 ANSWER = Like(("LS_ACC",), to=CONTROLLER, of="host", words="LS_ACC to the RSCN")
@@ -25,6 +25,37 @@ SCENES = (
         "FC-LS-2, PLOGI: 2 x R_A_TOV; FC-FS-3, exchange identifiers",
         (Want(FLOGI, FIRST, FABRIC_LOGIN), Want(AT_NAMES, LATER, IN_FABRIC), Want(AT_NAMES, LINK_SERVICE, (*IN_FABRIC, NEW_OX_ID)), Want(REGISTERS, LATER, IN_FABRIC)),
         Setup(peer="none", bends=(Lose(Like(("LS_ACC",), of=NAME_SERVER, words="LS_ACC of the name server"), 1),)),
+    ),
+    Scene(
+        "names-slow",
+        "The name server answers after three seconds: the host registers all the same.",
+        NAMES,
+        (*upto_login(), Want(REGISTERS, LATER, (*IN_FABRIC, OWN_ADDRESS)), Want(WATCHES, FIRST, IN_FABRIC), stays(2)),
+        Setup(peer="none", bends=(Late(3.0, kind("CT accept")),)),
+    ),
+    Scene(
+        "registration-rejected",
+        "The name server rejects the first registration (05, busy): the host stays.",
+        NAMES,
+        (*upto_login(), Want(REGISTERS, LATER, (*IN_FABRIC, OWN_ADDRESS)), stays(6)),
+        Setup(peer="none", bends=(Rewrite(both(in_payload(8, b"\x80\x01"), in_payload(13, b"\x05\0\0")), "a CT reject", kind("CT accept"), 1),)),
+    ),
+    *(
+        Scene(
+            f"notice-of-{name}",
+            f"The RSCN of the peer's login names its {name}: the host accepts it, asks the name server, and logs in at the peer.",
+            NOTICES,
+            (
+                *upto_watching(),
+                Want(QUERIES, LATER),
+                Begin(Rewrite(in_payload(4, bytes([form])), f"the {name}", kind("RSCN"))),
+                STARTS,
+                Want(OF_PEER, LATER, ANSWERED),
+                Want(QUERIES, 10, IN_FABRIC),
+                Want(AT_PEER, LATER, IN_FABRIC),
+            ),
+        )
+        for name, form in (("area", 1), ("domain", 2), ("fabric", 3))
     ),
     Scene(
         "told-of-login",

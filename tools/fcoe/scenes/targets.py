@@ -1,7 +1,8 @@
 """The host as a target: another N_Port logs in at it, and asks and commands it."""
-from .acts import ABORTS_OPEN, ASKS_ADISC, ASKS_PDISC, ASKS_REC, ASKS_RLS, ASKS_RTV, ASKS_STRANGE, ECHOES, LOGS_OUT, PROCESS_LOGS_OUT
+from .acts import ABORTS, ABORTS_OPEN, ASKS_ADISC, ASKS_PDISC, ASKS_PLOGI, ASKS_REC, ASKS_RLS, ASKS_RTV, ASKS_STRANGE, ECHOES, LOGS_OUT, PROCESS_LOGS_OUT, STARTS, STOPS
+from .changes import wrong_check
 from .holding import FABRIC_LOGIN, FIRST, FLOGI, IN_FABRIC, LATER, answers
-from .script import Like, Never, Peer, Scene, Setup, Step, Wait, Want, kind
+from .script import Begin, Like, Never, Peer, Rewrite, Scene, Setup, Step, Wait, Want, kind
 
 SERVICES, STORAGE, BASIC = "FC-LS-2", "FCP-4", "FC-FS-3, ABTS"
 ASKED = Setup(peer="there", peer_role="initiator")
@@ -57,6 +58,24 @@ SCENES = (
         "The peer aborts a command that is open or just over: the host answers with BA_ACC or BA_RJT.",
         BASIC,
         (*upto_commands(), ABORTS_OPEN, Want(ABORTED, LATER, (*IN_FABRIC, answers("ABTS")))),
+        ASKED,
+        NEEDS,
+    ),
+    Scene("target-abort", "The peer aborts an exchange that isn't open: the host answers.", BASIC, (*upto_commands(), ABORTS, Want(ABORTED, LATER, (*IN_FABRIC, answers("ABTS")))), ASKED, NEEDS),
+    asked("target-plogi-again", "sends a further PLOGI", ASKS_PLOGI, "PLOGI"),
+    Scene(
+        "target-command-broken",
+        "The CRC of the peer's commands is wrong: the host answers none.",
+        "FC-FS-3, CRC",
+        (*upto_commands(), Begin(Rewrite(wrong_check, "the CRC is wrong", kind("FCP_CMND"))), Wait(1), Never(ANY_STORAGE, 3)),
+        ASKED,
+        NEEDS,
+    ),
+    Scene(
+        "target-login-again",
+        "The peer logs out at the fabric, and in again: the host accepts its PLOGI and PRLI.",
+        f"{SERVICES}, PLOGI, PRLI",
+        (*upto_commands(), STOPS, Wait(1), STARTS, Want(ACCEPTS, FIRST, (*IN_FABRIC, answers("PLOGI"))), Want(ACCEPTS, LATER, (*IN_FABRIC, answers("PRLI")))),
         ASKED,
         NEEDS,
     ),

@@ -1,9 +1,11 @@
 """FIP VLAN discovery."""
 from .holding import FABRIC_LOGIN, FIRST, FLOGI, FROM_ENODE, IN_VLAN, LATER, LOGIN, SIZED, SOLICITS, TO_FORWARDERS, TOLD, UNTAGGED, VLANS
-from .script import Late, Lose, Never, Scene, Setup, Twice, Want
+from .changes import in_descriptor, with_descriptor
+from .script import Holds, Late, Lose, Never, Rewrite, Scene, Setup, Twice, Want
 
 SOURCE = "FC-BB-5, FIP VLAN discovery"
 ASKS = frozenset({"vlans"})
+IN_TOLD = Holds("in VLAN 200", lambda heard, _: heard.vlan == 200)
 
 SCENES = (
     Scene(
@@ -39,6 +41,22 @@ SCENES = (
         SOURCE,
         (Want(VLANS, FIRST, (UNTAGGED,)), Want(FLOGI, FIRST, FABRIC_LOGIN), Never(FLOGI, 3)),
         Setup(bends=(Twice(TOLD),)),
+        ASKS,
+    ),
+    Scene(
+        "vlan-several",
+        "The notification lists a further VLAN, in which nobody answers: the host logs in where it's answered.",
+        SOURCE,
+        (Want(VLANS, FIRST, (UNTAGGED,)), Want(FLOGI, FIRST, FABRIC_LOGIN)),
+        Setup(bends=(Rewrite(with_descriptor(bytes.fromhex("0e0100c8")), "VLAN 200 behind it", TOLD),)),
+        ASKS,
+    ),
+    Scene(
+        "vlan-of-nobody",
+        "The notification lists a VLAN alone in which nobody answers: the host solicits there, and doesn't log in.",
+        SOURCE,
+        (Want(VLANS, FIRST, (UNTAGGED,)), Want(SOLICITS, FIRST, (IN_TOLD,)), Never(LOGIN, 6)),
+        Setup(bends=(Rewrite(in_descriptor(14, 2, b"\0\xc8"), "VLAN 200 in its place", TOLD),)),
         ASKS,
     ),
     Scene(
