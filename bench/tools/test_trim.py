@@ -36,3 +36,12 @@ def test_a_recording_that_was_cut(seed: int, program: str, tmp_path: pathlib.Pat
     assert ran.stdout.startswith(f"{folder}.whole: ") and "entries are whole" in ran.stdout
     refused = subprocess.run([sys.executable, TOOLS / "look", "trim", str(folder)], capture_output=True, text=True, check=False)
     assert refused.returncode == 2 and "File exists" in refused.stderr
+
+
+def test_a_whole_recording_stays_whole(program: str, tmp_path: pathlib.Path) -> None:
+    folder = tmp_path / "s"
+    recording(folder, program)
+    ran = subprocess.run([sys.executable, TOOLS / "look", "trim", str(folder)], capture_output=True, text=True, check=True)
+    assert "475 entries are whole" in ran.stdout, ran.stdout
+    for name in ["journal", *PAIRS]:
+        assert (tmp_path / "s.whole" / name).read_bytes() == (folder / name).read_bytes(), name
