@@ -4,3 +4,7 @@ pub mod LineLemmas
 pub mod SeamReadLemmas
 pub mod LeftLemmas
 pub mod ExactLemmas
+pub mod TestLemmas
+pub mod FitLemmas
+pub mod RestoreLemmas
+pub mod UnderLemmas

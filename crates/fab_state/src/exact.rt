@@ -5,10 +5,11 @@ ghost use Rattle.fab_state.specs.Readable.{IsReadable};
 ghost use Rattle.fab_state.specs.Reading.{Refuses, other_line, line_feeds};
 
 use crate::lines::behind_lines;
+use crate::pasts::named_count;
 use crate::reading::{
     advertised_in, changes_in, clock_in, greatest_in, nexts_of, pasts_of, ports_of,
 };
-use crate::{Past, PastList, Seam, State, Tables, write_seam};
+use crate::{Seam, State, Tables, write_seam};
 use fab_base::NoMemory;
 use std::alloc::Global;
 use thiserror::Error;
@@ -152,25 +153,4 @@ fn seam_of(alloc: Global, first: u32, count: u32, ports: u32, text: &[u8]) -> Re
         nexts,
         greatest: greatest_in(text),
     })
-}
-
-// How many addresses anybody had.
-fn named_count(pasts: &PastList) -> usize
-    ensures { result ≡ length (spec.past_rows pasts.now) }
-{
-    let mut count = 0;
-    for past in pasts.items() {
-        count += has_name(past);
-    }
-    count
-}
-
-fn has_name(past: &Past) -> usize
-    ensures value { result ≡ length (spec.past_rows (past.now ∷ [])) }
-    ensures few { result ≤ 1 }
-{
-    match &past.name {
-        Some(_) => 1,
-        None => 0,
-    }
 }

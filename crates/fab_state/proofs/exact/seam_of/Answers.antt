@@ -14,7 +14,7 @@ returns c s h e =
     let front = both_lines (head_rows s ++ port_rows 1 s.nexts) (past_rows s.state.tables.past ++ map login_row ports) (front_lines s r) in
     let behind = c.behind_lines-behind_ports.ensures (head_rows s ++ port_rows 1 s.nexts) (flat_map row_text (past_rows s.state.tables.past) ++ logins) front.0 (front_length s c.args.ports h.nexts) (seam_front s c.args.text.now all) in
     let past = c.in_ok-past.ensures s.state.tables.past logins h.places r.past (no_address ports h.ports) behind in
-    let named = c.named_count.ensures ∙ ap (λ qs. length (past_rows qs)) past in
+    let named = c.named_count.ensures.value ∙ ap (λ qs. length (past_rows qs)) past in
     let later = c.behind_lines.ensures (past_rows s.state.tables.past) logins (both_lines (past_rows s.state.tables.past) (map login_row ports) front.1).0 (sym named) behind in
     let found = c.in_ok-logins.ensures ports [] h.ports (inl refl) later in
     same_seams (c.clock_in.ensures s [] r all) found past (c.advertised_in.ensures s [] r all) (c.changes_in.ensures s [] r all) (c.in_ok-nexts.ensures s [] r all h.nexts) (c.greatest_in.ensures s [] r all)

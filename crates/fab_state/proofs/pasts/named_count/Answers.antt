@@ -1,6 +1,6 @@
 use Rattle.std.proofs.Common.{arith}
 use Rattle.fab_state.proofs.ExactLemmas.{named_more}
-use Rattle.fab_state.proofs.exact.named_count.Goals as goal
+use Rattle.fab_state.proofs.pasts.named_count.Goals as goal
 
 pub loop-past-preserved : goal.loop-past-preserved
 loop-past-preserved c =
