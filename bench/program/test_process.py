@@ -209,6 +209,28 @@ def told_lines(room: Room) -> None:
     wanted("an output that can't be opened empties none", room.has("J", BEFORE) and room.has("OUT", BEFORE))
 
 
+def told_names(room: Room) -> None:
+    """No sign of a name that a terminal obeys gets there, and two names of one file are told also behind a fault of what is read."""
+    room.put(K=CONFIG, IN=REQUEST, J=BEFORE)
+    name = "a\x1b]0;b\x07\n\x7f\u009b\u202e\ufeff\U000e0041\\é名\u00a0c"
+    shown = "a\\x1b]0;b\\x07\\x0a\\x7f\\x9b\\u{202e}\\u{feff}\\u{e0041}\\é名\u00a0c"
+    lines: dict[tuple[str, ...], str] = {
+        (name,): f"{shown}: no command; fcoe_tool --help lists them",
+        ("convert", name, "OUT"): f"{shown}: no such file or folder",
+        ("convert", name, name): f"{shown} is named twice",
+        ("convert", name, f"./{name}"): f"{shown}: no such file or folder\nfcoe_tool: two names of one file: {shown}, ./{shown}",
+        ("run", "K", name, "IN", f"./{name}"): f"two names of one file: {shown}, ./{shown}",
+        ("run", "./J", "J", "IN", "OUT"): "two names of one file: ./J, J",
+        ("run", "K", "J", "J", "OUT"): "J is named twice",
+        ("convert", "IN", "./IN"): "two names of one file: IN, ./IN",
+    }
+    for words, told in lines.items():
+        ended = room.ends(words)
+        wanted(f"{words!r}: {ended}", ended.told == f"fcoe_tool: {told}\n")
+    wanted("a configuration that is the journal too", room.ends(["run", "./J", "J", "IN", "OUT"])[:2] == (1, "config 1 key\n"))
+    wanted("no file changed", room.has("J", BEFORE) and room.has("IN", REQUEST))
+
+
 # ---- 64 ports
 
 
@@ -571,6 +593,9 @@ class Process(RoomCase):
     def test_told_lines(self) -> None:
         """What is said on standard error; an output that can't be opened empties none."""
         told_lines(self.place())
+
+    def test_told_names(self) -> None:
+        told_names(self.place())
 
     def test_ports(self) -> None:
         """`run` of 1 to 64 ports byte by byte, `replay` and `show` of what it left, `snoop` of 64 pairs, and 65 ports."""

@@ -3,6 +3,7 @@
 #![tactic(auto)]
 
 mod edge;
+mod line;
 mod process;
 mod same;
 mod streams;

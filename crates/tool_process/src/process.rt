@@ -9,7 +9,7 @@ ghost use Rattle.tool_process.specs.Same.{IsPrinted};
 use crate::edge::{FileDepot, StdSink};
 use crate::same::standard_output;
 use crate::streams::hold_closed;
-use crate::telling::tell;
+use crate::telling::{WRITE_FAULT, tell};
 use fab_base::{Depot, NoMemory, OpenGate, Sink};
 use fabric_tool::{Outcome, fabric_tool, report};
 use std::alloc::{AllocGlobal, Global};
@@ -19,9 +19,6 @@ use std::rt::{Env, Files};
 use std::sync::Wait;
 use std::thread::Threads;
 use std::{env, io};
-
-// The status of a fault of writing.
-const WRITE_FAULT: u8 = 4;
 
 /// Runs the command that the words of this process are, over real files, prints its line to the
 /// standard output, and answers its status. Behind statuses 2, 3 and 4 a line on standard error

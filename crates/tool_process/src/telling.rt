@@ -1,9 +1,11 @@
 //! A line on standard error for whoever sits at a terminal, beside what a command prints: which
-//! file or which word a status speaks of. No clause speaks of it, and where it can't be written
-//! nothing changes.
-ghost use Rattle.std.specs.Prelude.{◌<◌, length};
+//! file or which word a status speaks of. No clause of std says what is written there.
+ghost use Rattle.std.specs.Prelude.{◌≡◌, ◌<◌, length};
+ghost use Rattle.std.specs.Str.{NoCharPasses};
+ghost use Rattle.tool_process.specs.Line.{is_hidden, line_text};
 
 use crate::edge::FileDepot;
+use crate::line::Line;
 use crate::same::Mix;
 use crate::trouble::Trouble;
 use fab_base::{MOST_PORTS, word_at};
@@ -11,6 +13,13 @@ use std::alloc::{AllocGlobal, Global};
 use std::io::Eprint;
 use std::rt::Files;
 use strsim::levenshtein;
+
+const NO_COMMAND: u8 = 2;
+
+const READ_FAULT: u8 = 3;
+
+/// The status of a fault of writing.
+pub(crate) const WRITE_FAULT: u8 = 4;
 
 const COMMANDS: [&str; 11] = [
     "run",
@@ -33,69 +42,78 @@ pub(crate) fn tell<R: Files + Eprint + AllocGlobal>(
     depot: &FileDepot<'_, R>,
     status: u8,
 ) {
-    match status {
-        2 => tell_words(rt, words),
-        3 => tell_trouble(rt, depot),
-        4 => match depot.mix() {
-            Mix::Apart => tell_trouble(rt, depot),
-            mix => tell_mix(rt, words, mix),
-        },
-        _ => {}
+    if status == NO_COMMAND {
+        tell_words(rt, words);
+        return;
     }
+    let (mix, trouble) = (depot.mix(), depot.trouble());
+    if let Some(Trouble { place, why }) = trouble_said(status, mix, trouble) {
+        say(rt, &Line::Trouble(depot.name_of(place), why));
+    }
+    tell_mix(rt, words, mix_said(status, mix));
+}
+
+// The trouble that is said behind a status: what went wrong first, unless names that are mixed are
+// why an output wasn't opened.
+fn trouble_said(status: u8, mix: Mix, trouble: Option<Trouble>) -> Option<Trouble>
+    ensures read { status ≡ 3 → result ≡ trouble }
+    ensures write { status ≡ 4 → mix ≡ Mix.Apart → result ≡ trouble }
+{
+    match (status, mix) {
+        (READ_FAULT, _) | (WRITE_FAULT, Mix::Apart) => trouble,
+        _ => None,
+    }
+}
+
+// Names that are mixed are said behind each status but that of a command that was done: also where
+// a fault of what is read was found first, since no output would have been opened.
+fn mix_said(status: u8, mix: Mix) -> Mix
+    ensures said { 0 < status → result ≡ mix }
+    ensures done { status ≡ 0 → result ≡ Mix.Apart }
+{
+    if status == 0 { Mix::Apart } else { mix }
 }
 
 // Says which names are one file, or the standard output.
 fn tell_mix<R: Eprint>(rt: &R, words: &[String], mix: Mix) {
-    let _said = match mix {
-        Mix::Apart => Ok(()),
-        Mix::Two(one, other) => {
-            let (one, other) = (at(words, one), at(words, other));
-            eprintln!(rt; "fcoe_tool: two names of one file: {one}, {other}")
-        }
-        Mix::Printed(place) => {
-            let name = at(words, place);
-            eprintln!(rt; "fcoe_tool: {name}: the standard output leads to it; nothing was done")
-        }
-        Mix::Piped(place) => {
-            let name = at(words, place);
-            eprintln!(rt; "fcoe_tool: {name}: that is the standard output, where the line goes")
-        }
-    };
-}
-
-fn tell_trouble<R: Files + Eprint>(rt: &R, depot: &FileDepot<'_, R>) {
-    if let Some(Trouble { place, why }) = depot.trouble() {
-        let name = depot.name_of(place);
-        let _said = eprintln!(rt; "fcoe_tool: {name}: {}", why.text());
+    match mix {
+        Mix::Apart => {}
+        Mix::Two(one, other) => say(rt, &Line::OneFile(at(words, one), at(words, other))),
+        Mix::Printed(place) => say(rt, &Line::Printed(at(words, place))),
+        Mix::Piped(place) => say(rt, &Line::Piped(at(words, place))),
     }
 }
 
 // Why words are no command.
 fn tell_words<R: Eprint + AllocGlobal>(rt: &R, words: &[String]) {
     if words.is_empty() {
-        let _said = eprintln!(rt; "fcoe_tool: no command; fcoe_tool --help lists them");
+        say(rt, &Line::NoCommand);
         return;
     }
     let command = at(words, 0);
     if !COMMANDS.iter().any(|known| *known == command) {
         tell_command(rt, command);
     } else if let Some(place) = used_twice(words) {
-        let name = at(words, place);
-        let _said = eprintln!(rt; "fcoe_tool: {name} is named twice");
+        say(rt, &Line::Twice(at(words, place)));
     } else if let Some(ports) = ports_of(words) {
-        let _said = eprintln!(rt; "fcoe_tool: {ports} ports, {MOST_PORTS} at most");
+        say(rt, &Line::Ports(ports));
     } else {
-        let _said = eprintln!(rt;
-            "fcoe_tool: {command}: other words are wanted; see fcoe_tool --help"
-        );
+        say(rt, &Line::OtherWords(command));
     }
 }
 
 fn tell_command<R: Eprint + AllocGlobal>(rt: &R, command: &str) {
-    let _said = match nearest(rt.alloc(), command) {
-        Some(known) => eprintln!(rt; "fcoe_tool: {command}: no command; {known}?"),
-        None => eprintln!(rt; "fcoe_tool: {command}: no command; fcoe_tool --help lists them"),
-    };
+    match nearest(rt.alloc(), command) {
+        Some(known) => say(rt, &Line::Meant(command, known)),
+        None => say(rt, &Line::Unknown(command)),
+    }
+}
+
+// Says a line, which has nothing that a terminal obeys. Where it can't be written nothing changes.
+fn say<R: Eprint>(rt: &R, line: &Line<'_>)
+    ensures plain { NoCharPasses is_hidden (line_text line.now) }
+{
+    let _said = eprintln!(rt; "{line}");
 }
 
 // The command that a word is within two edits of.

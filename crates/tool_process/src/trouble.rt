@@ -1,4 +1,6 @@
 //! What went wrong with a file, for whoever sits at a terminal: a line on standard error.
+ghost use Rattle.std.specs.Prelude.{◌≡◌};
+ghost use Rattle.tool_process.specs.Line.{why_text};
 
 use std::io::ErrorKind;
 
@@ -37,7 +39,9 @@ pub(crate) fn why_of(kind: ErrorKind) -> Why {
 
 impl Why {
     /// The reason in words.
-    pub(crate) fn text(self) -> &'static str {
+    pub(crate) fn text(self) -> &'static str
+        ensures { result.now ≡ why_text self }
+    {
         match self {
             Why::Missing => "no such file or folder",
             Why::Denied => "permission denied",
