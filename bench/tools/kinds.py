@@ -1,13 +1,13 @@
 """Captures of kinds of failures and of odd situations, each drawn by lot: what an answer has to say of it, and that nothing else may stand beside it."""
+import random
 import struct
-import zlib
 from dataclasses import dataclass, field
 from pathlib import Path
 from typing import Callable
 
 import wire
 from sessions import Disk, Host, Session, Switch
-from wire import ALL_FCFS, FCOE, FIP, NAMES, REQUEST, SECOND, Head, Packet
+from wire import ALL_ENODES, ALL_FCFS, FCOE, FIP, NAMES, REQUEST, Head
 
 Make = Callable[[int, Path], list[Path]]
 KINDS: dict[str, "Kind"] = {}
@@ -15,13 +15,12 @@ KINDS: dict[str, "Kind"] = {}
 
 @dataclass
 class Kind:
-    """A kind of capture: `cause` stands in one of the first two answers; answers that are worse than a note match it or `also`."""
+    """A kind of capture: `cause` stands in one of the first two answers (with its next step); every answer, notes too, matches it or `also`."""
 
     name: str
     make: Make
     cause: str
     also: list[str] = field(default_factory=list)
-    words: list[str] = field(default_factory=list)  # options of `look`
     is_well: bool = False
     is_refused: bool = False  # nothing can be looked at, and the refusal has the cause
 
@@ -29,16 +28,17 @@ class Kind:
 def kind(cause: str, *also: str, is_well: bool = False, is_refused: bool = False) -> Callable[[Make], Make]:
     def taken(make: Make) -> Make:
         name = make.__name__
-        KINDS[name] = Kind(name, make, cause, list(also), [], is_well, is_refused)
+        KINDS[name] = Kind(name, make, cause, list(also), is_well, is_refused)
         return make
 
     return taken
 
 
 class Case:
-    """A host, a disk and the fabric between them."""
+    """A host, a disk and the fabric between them; by some seeds another host beside them, with which nothing is wrong."""
 
     def __init__(self, seed: int, ports: tuple[int, ...] = (1,)) -> None:
+        self.beside = {3: 1, 4: 3}.get(seed % 5, 0)  # at which port that other host is
         self.s = Session.drawn(seed)
         self.s.captured = set(ports)
         self.h, self.d = Host.drawn(self.s.lot), Disk.drawn(self.s.lot)
@@ -55,12 +55,30 @@ class Case:
     def live(self, seconds: float) -> None:
         self.s.live(seconds, *((self.h, self.d) if 2 in self.s.captured else (self.h,)))
 
+    def join(self) -> None:
+        """The other host: on the same port behind a bridge, or on one of its own, over the same time."""
+        first, last = (min(it.moment for some in self.s.packets.values() for it in some), max(it.moment for some in self.s.packets.values() for it in some))
+        lot = random.Random(self.h.mac)
+        own = Session(lot, self.s.first, first + lot.randrange(5_000_000), captured={self.beside})
+        host, disk = Host.drawn(lot, self.h.address ^ 0x0500), Disk.drawn(lot)
+        host.port = self.beside
+        own.log_in(host)
+        own.register(host, (disk,))
+        own.meet(host, disk)
+        own.use(host, disk)
+        own.live((last - own.now) / 10**9, host)
+        more = [it for it in own.packets[self.beside] if self.beside != 1 or it.data[:6] != ALL_ENODES]
+        self.s.packets[self.beside] = sorted(self.s.packets.get(self.beside, []) + more, key=lambda it: it.moment)
+
     def written(self, folder: Path) -> list[Path]:
+        if self.beside:
+            self.join()
         return [wire.write_pcap(folder / f"port{port}.pcap", packets) for port, packets in sorted(self.s.packets.items())]
 
 
 def well_used(seed: int, seconds: float = 40) -> Case:
     case = Case(seed)
+    case.beside = 0
     case.in_and_known()
     case.s.meet(case.h, case.d)
     case.s.use(case.h, case.d)
@@ -71,7 +89,7 @@ def well_used(seed: int, seconds: float = 40) -> Case:
 # ---- behind the login
 
 
-@kind(r"read.*data|data.*never (arrive|came)")
+@kind(r"data of \d+ reads from .* never came, though each ends with GOOD: .*2,158 bytes")
 def io_no_jumbo(seed: int, folder: Path) -> list[Path]:
     """Large frames of the disk don't come to the host's port, small ones do."""
     case = Case(seed)
@@ -85,7 +103,7 @@ def io_no_jumbo(seed: int, folder: Path) -> list[Path]:
     return case.written(folder)
 
 
-@kind(r"(between|on the way|port 2.*port 1).*|frames.*never")
+@kind(r"data of \d+ reads .* never came.*came in at port 2 and never went out at port 1")
 def io_no_jumbo_both(seed: int, folder: Path) -> list[Path]:
     """Both ports are captured: the disk's large frames come in at its port, and go out at the host's never."""
     case = Case(seed, (1, 2))
@@ -99,7 +117,7 @@ def io_no_jumbo_both(seed: int, folder: Path) -> list[Path]:
     return case.written(folder)
 
 
-@kind(r"LUN.*(mask|shows no|no unit|no LUN)")
+@kind(r"shows it no unit: REPORT LUNS lists LUN 0 alone, and INQUIRY says that no unit is there.*masking")
 def lun_masked(seed: int, folder: Path) -> list[Path]:
     case = Case(seed)
     case.in_and_known()
@@ -112,7 +130,7 @@ def lun_masked(seed: int, folder: Path) -> list[Path]:
     return case.written(folder)
 
 
-@kind(r"PLOGI.*F_RJT|F_RJT.*PLOGI")
+@kind(r"its PLOGI to .* comes back (twice|\d times): F_RJT")
 def plogi_gone(seed: int, folder: Path) -> list[Path]:
     """The switch sends PLOGIs back."""
     case = Case(seed)
@@ -126,7 +144,7 @@ def plogi_gone(seed: int, folder: Path) -> list[Path]:
     return case.written(folder)
 
 
-@kind(r"PLOGI.*(no answer|unanswered|answered none|isn't answered|nobody answer)")
+@kind(r"its PLOGI to .* finds no answer")
 def plogi_silent(seed: int, folder: Path) -> list[Path]:
     case = Case(seed)
     case.in_and_known()
@@ -137,7 +155,7 @@ def plogi_silent(seed: int, folder: Path) -> list[Path]:
     return case.written(folder)
 
 
-@kind(r"PRLI.*(rejected|refused|says no)")
+@kind(r"its PRLI to .* is rejected (twice|\d times): LS_.*no SCSI between")
 def prli_reject(seed: int, folder: Path) -> list[Path]:
     case = Case(seed)
     case.in_and_known()
@@ -150,7 +168,7 @@ def prli_reject(seed: int, folder: Path) -> list[Path]:
     return case.written(folder)
 
 
-@kind(r"check sequence|CRC")
+@kind(r"\d+ FC frames between it and .* have a wrong check sequence")
 def bad_crc(seed: int, folder: Path) -> list[Path]:
     case = Case(seed)
     case.in_and_known()
@@ -162,7 +180,7 @@ def bad_crc(seed: int, folder: Path) -> list[Path]:
     return case.written(folder)
 
 
-@kind(r"RESERVATION CONFLICT")
+@kind(r"\d commands to LUN [01] with RESERVATION CONFLICT.*reservation")
 def reservation(seed: int, folder: Path) -> list[Path]:
     case = Case(seed)
     case.in_and_known()
@@ -178,7 +196,7 @@ def reservation(seed: int, folder: Path) -> list[Path]:
     return case.written(folder)
 
 
-@kind(r"pause")
+@kind(r"it sends [\d,]+ PFC pauses for priority [34] .*hold the other side still")
 def pfc_storm(seed: int, folder: Path) -> list[Path]:
     """A host that sends PFC pauses without end."""
     case = well_used(seed, 5)
@@ -194,7 +212,7 @@ def pfc_storm(seed: int, folder: Path) -> list[Path]:
 # ---- discovery and login
 
 
-@kind(r"01:10:18:01:00:01.*01:10:18:01:00:02|destination")
+@kind(r"solicitations go to the wrong address.*01:10:18:01:00:01, should be 01:10:18:01:00:02")
 def wrong_multicast(seed: int, folder: Path) -> list[Path]:
     """A host that solicits at All-ENode-MACs."""
     case = Case(seed)
@@ -205,7 +223,7 @@ def wrong_multicast(seed: int, folder: Path) -> list[Path]:
     return case.written(folder)
 
 
-@kind(r"VLAN \d+")
+@kind(r"in VLAN \d+, another fabric than that of VLAN \d+ on this port, the switch .* rejects its FLOGI \d times: LS_RJT 03 0d")
 def two_vlans(seed: int, folder: Path) -> list[Path]:
     """Two fabrics on one port: one login in each VLAN is tried, one is rejected."""
     case = well_used(seed, 1)
@@ -222,7 +240,7 @@ def two_vlans(seed: int, folder: Path) -> list[Path]:
     return case.written(folder)
 
 
-@kind(r"OX_ID")
+@kind(r"replies don't fit its requests.*OX_ID 8\w+, should be .*FLOGI accept, \d+ frames")
 def flogi_storm(seed: int, folder: Path) -> list[Path]:
     """Each accept has another OX_ID than its FLOGI."""
     case = Case(seed)
@@ -234,7 +252,7 @@ def flogi_storm(seed: int, folder: Path) -> list[Path]:
     return case.written(folder)
 
 
-@kind(r"VN_Port|virtual")
+@kind(r"no keep alive of its VN_Port for .*the switch cleared it.*this VN_Port")
 def vn_ka_missing(seed: int, folder: Path) -> list[Path]:
     """Keep alives of a virtual N_Port lack, and the switch clears it alone."""
     case = Case(seed)
@@ -279,75 +297,18 @@ def clean_address(seed: int, folder: Path) -> list[Path]:
     return case.written(folder)
 
 
-@kind(r"nobody|no frame of anybody|gap|clock", is_well=True)
-def clock_jump(seed: int, folder: Path) -> list[Path]:
-    """An hour without any frame."""
-    case = well_used(seed, 20)
-    case.s.now += case.lot.choice([1, 2]) * 3600 * SECOND
-    case.s.use(case.h, case.d)
-    case.live(30)
-    return case.written(folder)
-
-
-@kind("", is_well=True)
-def doubled(seed: int, folder: Path) -> list[Path]:
-    """Every frame twice: both sides of a bridge in one file."""
-    case = well_used(seed)
-    case.s.packets[1] = [Packet(it.moment + (3000 if at else 0), it.data) for it in case.s.packets[1] for at in (0, 1)]
-    case.s.packets[1].sort(key=lambda it: it.moment)
-    return case.written(folder)
-
-
-@kind("", is_well=True)
-def with_fcs(seed: int, folder: Path) -> list[Path]:
-    """The tap keeps the Ethernet check sequence."""
-    case = well_used(seed)
-    case.s.packets[1] = [Packet(it.moment, it.data + zlib.crc32(it.data).to_bytes(4, "little")) for it in case.s.packets[1]]
-    return case.written(folder)
-
-
-@kind("", is_well=True)
-def priority_tag(seed: int, folder: Path) -> list[Path]:
-    """VLAN discovery with a priority tag, VLAN 0."""
-    case = Case(seed)
-    case.s.ask_vlan(case.h, tag=0)
-    case.s.log_in(case.h, asks=False)
-    case.s.register(case.h, (case.d,))
-    case.s.meet(case.h, case.d)
-    case.s.use(case.h, case.d)
-    case.live(20)
-    return case.written(folder)
-
-
-@kind(r"clock|before", is_well=True)
-def skew(seed: int, folder: Path) -> list[Path]:
-    """Two adapters, one a direction, whose clocks differ."""
-    case = well_used(seed)
-    off = case.lot.choice([300_000, 1_000_000, 3_000_000, 20_000_000])
-    mac = case.s.switch.mac
-    for it in case.s.packets[1]:
-        it.moment -= off if it.data[6:12] == mac else 0
-    case.s.packets[1].sort(key=lambda it: it.moment)
-    return case.written(folder)
-
-
-@kind(r"rejected.*\(vendor|vendor")
+@kind(r"rejected \d FLOGIs, ff 00 \(vendor specific, vendor's (21|42)\)")
 def vendor_rjt(seed: int, folder: Path) -> list[Path]:
     case = Case(seed)
     case.s.discover(case.h)
+    vendors = case.lot.choice([0x21, 0x42])
     for _ in range(case.lot.randrange(2, 6)):
-        case.s.reject(case.h, case.s.flogi(case.h), (0xFF, 0, case.lot.choice([0x21, 0x42])))
+        case.s.reject(case.h, case.s.flogi(case.h), (0xFF, 0, vendors))
         case.s.wait(2)
     return case.written(folder)
 
 
-@kind("", is_well=True)
-def nano_big(seed: int, folder: Path) -> list[Path]:
-    case = well_used(seed)
-    return [wire.write_pcap(folder / "nano.pcap", case.s.packets[1], ">", True)]
-
-
-@kind(r"keep alive")
+@kind(r"keep alives name another MAC than its own.*00:00:00:00:00:01, should be")
 def ka_wrong_descriptor(seed: int, folder: Path) -> list[Path]:
     """The MAC in the keep alive is another."""
     case = Case(seed)
@@ -365,7 +326,7 @@ def ka_wrong_descriptor(seed: int, folder: Path) -> list[Path]:
     return case.written(folder)
 
 
-@kind(r"priority|switches")
+@kind(r"two switches of different fabrics advertise in VLAN.*priority 10\), which rejected \d FLOGIs.*never tried")
 def priority_beaten(seed: int, folder: Path) -> list[Path]:
     """Two switches of two fabrics in one VLAN; the host takes the lower priority, and is rejected there."""
     case = Case(seed)
@@ -385,7 +346,7 @@ def priority_beaten(seed: int, folder: Path) -> list[Path]:
     return case.written(folder)
 
 
-@kind(r"cleared")
+@kind(r"the switch cleared its login \d times, first 2.0 s after its accept")
 def clear_flap(seed: int, folder: Path) -> list[Path]:
     case = Case(seed)
     s, h = case.s, case.h
@@ -399,7 +360,7 @@ def clear_flap(seed: int, folder: Path) -> list[Path]:
     return case.written(folder)
 
 
-@kind(r"VLAN")
+@kind(r"sends in VLAN \d+, the switch advertises in \d+")
 def second_vlan(seed: int, folder: Path) -> list[Path]:
     """The host solicits in another VLAN than the notification names."""
     case = Case(seed)
@@ -413,7 +374,7 @@ def second_vlan(seed: int, folder: Path) -> list[Path]:
     return case.written(folder)
 
 
-@kind(r"no (entry|N_Port|target|name)|09 0|zone|rejected|sees")
+@kind(r"the name server lists no target to it: GID_FT .*zone")
 def lun_zoning(seed: int, folder: Path) -> list[Path]:
     """The name server lists no target: not zoned."""
     case = Case(seed)
@@ -429,7 +390,7 @@ def lun_zoning(seed: int, folder: Path) -> list[Path]:
     return case.written(folder)
 
 
-@kind(r"RSCN")
+@kind(r"sends no RSCN to .* of .*which it owes")
 def rscn_missing(seed: int, folder: Path) -> list[Path]:
     """A disk comes later on a port that is captured; the host watches, and no RSCN is sent."""
     case = Case(seed, (1, 2))
@@ -443,7 +404,7 @@ def rscn_missing(seed: int, folder: Path) -> list[Path]:
     return case.written(folder)
 
 
-@kind(r"FC-MAP|granted")
+@kind(r"with the FC-MAP 0e:fc:00; the switch's is 0e:fc:0a")
 def wrong_fpma(seed: int, folder: Path) -> list[Path]:
     """The host sends with an FC-MAP of its own."""
     case = Case(seed)
@@ -474,57 +435,7 @@ def boot_storm(seed: int, folder: Path) -> list[Path]:
     return case.written(folder)
 
 
-@kind(r"no FIP or FCoE frame has a VLAN tag", is_refused=True)
-def vlan_stripped(seed: int, folder: Path) -> list[Path]:
-    case = well_used(seed)
-    case.s.packets[1] = [Packet(it.moment, it.data[:12] + it.data[16:] if it.data[12:14] == b"\x81\0" else it.data) for it in case.s.packets[1]]
-    return case.written(folder)
-
-
-def of_direction(case: Case, is_up: bool) -> None:
-    mac = case.s.switch.mac
-    case.s.packets[1] = [it for it in case.s.packets[1] if (it.data[6:12] == mac) != is_up]
-
-
-@kind(r"both directions|direction|switch's answer", is_well=True)
-def oneway_up(seed: int, folder: Path) -> list[Path]:
-    """The host's direction alone, of a session with nothing wrong."""
-    case = well_used(seed)
-    of_direction(case, True)
-    return case.written(folder)
-
-
-@kind(r"FLOGI reject 09 29", is_refused=True)
-def oneway_down(seed: int, folder: Path) -> list[Path]:
-    """The switch's direction alone: its rejects are there."""
-    case = Case(seed)
-    case.s.discover(case.h)
-    for _ in range(case.lot.randrange(3, 6)):
-        case.s.reject(case.h, case.s.flogi(case.h), (0x09, 0x29, 0))
-        case.s.wait(2)
-        case.s.advertise(case.h)
-    of_direction(case, False)
-    return case.written(folder)
-
-
-@kind(r"began|before the capture", is_well=True)
-def mid_session(seed: int, folder: Path) -> list[Path]:
-    """The capture began late."""
-    case = well_used(seed)
-    login = next(at for at, it in enumerate(case.s.packets[1]) if it.data[16:18] == b"\x89\x06")
-    case.s.packets[1] = case.s.packets[1][login + 14 :]
-    return case.written(folder)
-
-
-@kind(r"cut|snap", is_well=True)
-def snaplen(seed: int, folder: Path) -> list[Path]:
-    case = well_used(seed)
-    size = case.lot.choice([68, 96, 128])
-    case.s.packets[1] = [Packet(it.moment, it.data[:size], len(it.data)) for it in case.s.packets[1]]
-    return case.written(folder)
-
-
-@kind(r"keep alive.*(source|from)|(from|source).*keep alive")
+@kind(r"keep alives don't come from the right MAC.*source 0e:fc:.*, should be")
 def ka_wrong_mac(seed: int, folder: Path) -> list[Path]:
     """Keep alives from the FPMA; the switch clears."""
     case = Case(seed)
@@ -542,7 +453,7 @@ def ka_wrong_mac(seed: int, folder: Path) -> list[Path]:
     return case.written(folder)
 
 
-@kind(r"FDISC.*(NPIV|N_Port)|NPIV")
+@kind(r"no NPIV at this port.*features in the accept, frame \d+ 1000, should be 2000.*FDISC")
 def npiv_off(seed: int, folder: Path) -> list[Path]:
     case = Case(seed)
     s, h = case.s, case.h
@@ -559,7 +470,7 @@ def npiv_off(seed: int, folder: Path) -> list[Path]:
     return case.written(folder)
 
 
-@kind(r"two (hosts|switches|fabrics)|same MAC|both granted|one FC-MAP")
+@kind(r"two hosts have one MAC in VLAN \d+: .* share one FC-MAP", r"two switches of different fabrics advertise in VLAN")
 def same_map(seed: int, folder: Path) -> list[Path]:
     """Two fabrics with one FC-MAP on one VLAN: both grant the same address, so two hosts have one MAC."""
     case = Case(seed)
@@ -582,13 +493,12 @@ def same_map(seed: int, folder: Path) -> list[Path]:
     return case.written(folder)
 
 
-@kind(r"cleared")
+@kind(r"the switch cleared its login once")
 def clear_all(seed: int, folder: Path) -> list[Path]:
     """The switch clears with an empty list, and the host is gone."""
     case = well_used(seed, 12)
     case.s.clear(case.h, [])
-    case.s.now += 20 * SECOND
-    case.s.advertise(case.h)
-    case.s.now += 10 * SECOND
-    case.s.advertise(case.h)
+    for _ in range(30_000 // case.s.switch.period + 1):
+        case.s.wait(case.s.switch.period / 1000)
+        case.s.advertise(case.h)
     return case.written(folder)

@@ -1,14 +1,15 @@
 """Captures in odd forms: several interfaces, travelling mirrors, further tags, LLDP alone."""
 import random
 import struct
+import zlib
 from pathlib import Path
 
 import wire
 from kinds import Case, kind, well_used
-from wire import Packet
+from wire import SECOND, Packet
 
 
-@kind("", is_well=True)
+@kind(r"tun0 .*no Ethernet, left out", is_well=True)
 def multi_if(seed: int, folder: Path) -> list[Path]:
     """Two Ethernet interfaces and a raw IP one."""
     case = well_used(seed)
@@ -28,7 +29,7 @@ def tunnel(lot: random.Random, protocol: int, inner: bytes) -> bytes:
     return wire.ethernet(lot.randbytes(6), lot.randbytes(6), 0x0800, head[:10] + struct.pack(">H", check) + head[12:] + inner)
 
 
-@kind("", is_well=True)
+@kind(r"\d+ frames of FIP and FCoE stand in ERSPAN I", is_well=True)
 def erspan2(seed: int, folder: Path) -> list[Path]:
     """ERSPAN I, II or III by the seed."""
     case = well_used(seed)
@@ -46,7 +47,7 @@ def erspan2(seed: int, folder: Path) -> list[Path]:
     return case.written(folder)
 
 
-@kind("", is_well=True)
+@kind(r"\d+ frames of FIP and FCoE stand in VXLAN", is_well=True)
 def vxlan_wrapped(seed: int, folder: Path) -> list[Path]:
     case = well_used(seed)
     case.s.packets[1] = [
@@ -55,7 +56,7 @@ def vxlan_wrapped(seed: int, folder: Path) -> list[Path]:
     return case.written(folder)
 
 
-@kind("", is_well=True)
+@kind(r"\d+ frames of FIP and FCoE stand in a second VLAN tag", is_well=True)
 def qinq(seed: int, folder: Path) -> list[Path]:
     case = well_used(seed)
     outer = struct.pack(">HH", case.lot.choice([0x88A8, 0x88A8, 0x9100]), 0x2000 | case.lot.randrange(2, 4000))
@@ -75,13 +76,123 @@ def lldp(mac: bytes, applications: list[tuple[int, int, int]], pfc: int) -> byte
     return wire.ethernet(bytes.fromhex("0180c200000e"), mac, 0x88CC, told)
 
 
-@kind(r"DCBX.*no FCoE", is_refused=True)
+@kind(r"DCBX of .* names iSCSI \(priority 4\), no FCoE", is_refused=True)
 def no_dcbx(seed: int, folder: Path) -> list[Path]:
     """LLDP alone: the switch's DCBX names iSCSI, and no FCoE."""
     case = Case(seed)
+    case.beside = 0
     for _ in range(case.lot.randrange(3, 9)):
         case.s.put(1, lldp(case.s.switch.mac, [(4, 2, 3260)], 1 << 4))
         case.s.tick()
         case.s.put(1, lldp(case.h.mac, [(3, 1, 0x8906), (3, 1, 0x8914)], 1 << 3))
         case.s.wait(30)
+    return case.written(folder)
+
+
+@kind(r"no frame of anybody from .* \((60|120) min\)", is_well=True)
+def clock_jump(seed: int, folder: Path) -> list[Path]:
+    """An hour without any frame."""
+    case = well_used(seed, 20)
+    case.s.now += case.lot.choice([1, 2]) * 3600 * SECOND
+    case.s.use(case.h, case.d)
+    case.live(30)
+    return case.written(folder)
+
+
+@kind(r"\d+ frames stand twice", is_well=True)
+def doubled(seed: int, folder: Path) -> list[Path]:
+    """Every frame twice: both sides of a bridge in one file."""
+    case = well_used(seed)
+    case.s.packets[1] = [Packet(it.moment + (3000 if at else 0), it.data) for it in case.s.packets[1] for at in (0, 1)]
+    case.s.packets[1].sort(key=lambda it: it.moment)
+    return case.written(folder)
+
+
+@kind(r"\d+ frames end with the Ethernet check sequence", is_well=True)
+def with_fcs(seed: int, folder: Path) -> list[Path]:
+    """The tap keeps the Ethernet check sequence."""
+    case = well_used(seed)
+    case.s.packets[1] = [Packet(it.moment, it.data + zlib.crc32(it.data).to_bytes(4, "little")) for it in case.s.packets[1]]
+    return case.written(folder)
+
+
+@kind("", is_well=True)
+def priority_tag(seed: int, folder: Path) -> list[Path]:
+    """VLAN discovery with a priority tag, VLAN 0."""
+    case = Case(seed)
+    case.s.ask_vlan(case.h, tag=0)
+    case.s.log_in(case.h, asks=False)
+    case.s.register(case.h, (case.d,))
+    case.s.meet(case.h, case.d)
+    case.s.use(case.h, case.d)
+    case.live(20)
+    return case.written(folder)
+
+
+@kind(r"the switch's frames are [\d.]+ ms too early, which is taken out", is_well=True)
+def skew(seed: int, folder: Path) -> list[Path]:
+    """Two adapters, one a direction, whose clocks differ."""
+    case = well_used(seed)
+    off = case.lot.choice([300_000, 1_000_000, 3_000_000, 20_000_000])
+    mac = case.s.switch.mac
+    for it in case.s.packets[1]:
+        it.moment -= off if it.data[6:12] == mac else 0
+    case.s.packets[1].sort(key=lambda it: it.moment)
+    return case.written(folder)
+
+
+@kind("", is_well=True)
+def nano_big(seed: int, folder: Path) -> list[Path]:
+    case = well_used(seed)
+    return [wire.write_pcap(folder / "nano.pcap", case.s.packets[1], ">", True)]
+
+
+@kind(r"no FIP or FCoE frame has a VLAN tag", is_refused=True)
+def vlan_stripped(seed: int, folder: Path) -> list[Path]:
+    case = well_used(seed)
+    case.s.packets[1] = [Packet(it.moment, it.data[:12] + it.data[16:] if it.data[12:14] == b"\x81\0" else it.data) for it in case.s.packets[1]]
+    return case.written(folder)
+
+
+def of_direction(case: Case, is_up: bool) -> None:
+    mac = case.s.switch.mac
+    case.s.packets[1] = [it for it in case.s.packets[1] if (it.data[6:12] == mac) != is_up]
+
+
+@kind(r"the captures hold the hosts' direction alone", is_well=True)
+def oneway_up(seed: int, folder: Path) -> list[Path]:
+    """The host's direction alone, of a session with nothing wrong."""
+    case = well_used(seed)
+    of_direction(case, True)
+    return case.written(folder)
+
+
+@kind(r"\d of FLOGI reject 09 29 \(insufficient resources\) to", is_refused=True)
+def oneway_down(seed: int, folder: Path) -> list[Path]:
+    """The switch's direction alone: its rejects are there."""
+    case = Case(seed)
+    case.beside = 0
+    case.s.discover(case.h)
+    for _ in range(case.lot.randrange(3, 6)):
+        case.s.reject(case.h, case.s.flogi(case.h), (0x09, 0x29, 0))
+        case.s.wait(2)
+        case.s.advertise(case.h)
+    of_direction(case, False)
+    return case.written(folder)
+
+
+@kind(r"logged in before the capture began", r"of a login that is older than the capture", is_well=True)
+def mid_session(seed: int, folder: Path) -> list[Path]:
+    """The capture began late."""
+    case = well_used(seed)
+    login = next(at for at, it in enumerate(case.s.packets[1]) if it.data[16:18] == b"\x89\x06")
+    case.s.packets[1] = case.s.packets[1][login + 14 :]
+    return case.written(folder)
+
+
+@kind(r"cut by the (capture|snap length)", is_well=True)
+def snaplen(seed: int, folder: Path) -> list[Path]:
+    case = well_used(seed)
+    size = case.lot.choice([68, 96, 128])
+    case.s.packets[1] = [Packet(it.moment, it.data[:size], len(it.data)) for it in case.s.packets[1]]
     return case.written(folder)

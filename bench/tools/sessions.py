@@ -87,7 +87,11 @@ class Session:
     now: int = 0
     packets: dict[int, list[Packet]] = field(default_factory=dict)
     captured: set[int] = field(default_factory=lambda: {1})  # ports
+    first: Switch = field(init=False)  # the switch that it began with
     beats: dict[tuple[bytes, bool], int] = field(default_factory=dict)  # when a host's next keep alive is due: of its ENode, and of its VN_Port
+
+    def __post_init__(self) -> None:
+        self.first = self.switch
 
     @classmethod
     def drawn(cls, seed: int, vlan: Optional[int] = None) -> "Session":

@@ -187,7 +187,7 @@ class Cases(Base):
             self.assertIn(field, [it["field"] for it in apart[0]["differences"]], name)
             states[apart[0]["state"]].add(name)
         self.assertEqual(states["choice"], {"r_a_tov", "e_d_tov", "receive_size", "reason", "ct_reason", "priority", "d_bit"})
-        self.assertEqual(states["open"], {"not_forwarded"})
+        self.assertEqual(states["open"], {"not_forwarded", "rscn_twice"})
 
 
     def test_two_forwarders(self) -> None:

@@ -21,16 +21,16 @@ FIRST = {  # severity, port, name, and what the first answer says
     "no_answer_padded": ("failed", 1, "the host 00:1b:21:00:00:0a", "the answer to it doesn't: look whether 2,158 bytes come through"),
     "limit": ("failed", 2, B, "got no login: the switch rejected 12 FLOGIs, 09 29 (insufficient resources)"),
     "name_held": ("failed", 2, A, "got no login: the switch rejected 1 FLOGI, 03 00 (logical error)"),
-    "name_elsewhere": ("failed", 1, A, "got no login: the switch rejected 1 FLOGI, 03 00 (logical error); this forwarder grants it"),
+    "name_elsewhere": ("failed", 1, A, "got no login: the switch rejected 1 FLOGI, 03 00 (logical error); a right switch would grant it"),
     "short_period": ("lost", None, None, "the switch advertises a period of 250 ms, and Linux heeds none below 500 ms: 1 login fell silent by it"),
     "silence": ("lost", 1, A, "fell silent: no keep alive of its ENode for 40.0 s, up to the end of the captures"),
     "relogin": ("lost", 1, A, "logged in again 3 times without a LOGO"),
     "unheard": ("failed", 1, A, "sent 3 FLOGIs to 00:05:1e:00:00:02, the switch answered none"),
     "unused": ("failed", 1, A, "was granted 650100 6 times and never used it"),
-    "busy": ("failed", 1, "20:00:00:1b:21:00:00:0c", "got no login: the switch rejected 5 FDISCs, 05 00 (logical busy); this forwarder grants it"),
-    "watched": ("failed", 2, B, "got no login: the switch rejected 3 FLOGIs, 05 00 (logical busy); this forwarder grants it"),
+    "busy": ("failed", 1, "20:00:00:1b:21:00:00:0c", "got no login: the switch rejected 5 FDISCs, 05 00 (logical busy); a right switch would grant it"),
+    "watched": ("failed", 2, B, "got no login: the switch rejected 3 FLOGIs, 05 00 (logical busy); a right switch would grant it"),
     "own_mac": ("dropped", 1, None, "sent from the ENode's MAC 00:1b:21:00:00:0a (as with SPMA), not from the granted 0e:fc:00:65:01:00 (FPMA)"),
-    "no_server": ("different", 1, A, "the switch left 4 PLOGIs to name server (fffffc) unanswered; this forwarder answers LS_ACC"),
+    "no_server": ("different", 1, A, "the switch left 4 PLOGIs to name server (fffffc) unanswered; a right switch would answer LS_ACC"),
     "cloned": ("failed", 2, A, "two hosts use this port name at once: 00:1b:21:00:00:0a on port 1, and from 23:03:17.505 on 00:1b:21:00:00:1a on port 2"),
     "sends_on": ("lost", 1, A, "fell silent: no keep alive of its ENode for 20.0 s"),
     "not_zoned": ("dropped", 1, None, f"1 frame from {A} to {B} dropped: no active zone joins the two"),
@@ -143,7 +143,7 @@ class Answers(Base):
         """What comes of a failure is no answer beside it."""
         self.assertEqual([it["severity"] for it in self.json("answers", *self.files["sends_on"])], ["lost"])
         texts = [it["text"] for it in self.json("answers", *self.files["cloned"])]
-        self.assertEqual(texts[1:], ["2 frames from 660100 to fffffc: the switch granted 660100, this forwarder didn't"])
+        self.assertEqual(texts[1:], ["2 frames from 660100 to fffffc: the switch granted 660100, which a right switch wouldn't"])
 
     def test_fabrics(self) -> None:
         """Where switches of several fabrics advertise themselves in one VLAN, the first step is which of them is the host's own, whichever is looked at."""

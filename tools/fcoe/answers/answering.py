@@ -3,7 +3,7 @@ from typing import Optional
 
 from ..frames.heard import number
 from ..frames.pauses import pauses_in
-from ..runs.configs import forwarders, is_advertisement
+from ..runs.configs import forwarders, is_advertisement, vlans_of
 from ..runs.enodes import seen_of
 from ..runs.looking import Look
 from ..exchanges.exchange import End
@@ -16,7 +16,7 @@ from .discovery import why_not_in
 from .logins import again, cleared, cleared_logins, gaps, lapsed_logins, silent, silent_logins
 from .rejects import rejected, rejected_here, rejects_in, shared
 from .rivals import several
-from .traffic import Explained, differences, drops, well
+from .traffic import Explained, cut_logins, differences, drops, well
 
 
 def address_ports(ports: list[Port]) -> dict[int, int]:
@@ -47,6 +47,9 @@ def behind_of(look: Look) -> Behind:
     made.vlan, made.switches = look.run.config.vlan, look.inputs.switches
     known = forwarders([flow.heard for port in look.captured for flow in port.frames.used() if is_advertisement(flow.heard)])
     made.others = {mac: it.vlan for mac, it in known.items() if mac != look.run.config.mac}
+    for mac in known:
+        for vlan in vlans_of([flow.heard for port in look.captured for flow in port.frames.used()], mac) - {made.vlan}:
+            made.vlans.setdefault(vlan, set()).add(mac)
     made.pauses = [(port, it) for port in look.captured for it in pauses_in(port.frames)]
     return made
 
@@ -72,8 +75,8 @@ def answers_of(look: Look) -> list[Answer]:
     found += rejected_here(look, [it for it in everyone if (it.enode.port.number, it.enode.mac) not in told.hosts])
     by_switch = {(it.login.port, it.login.enode) for it in cleared_logins(look)}
     told.others = set(behind.others)
-    told.vlans = {it for it in behind.others.values() if it != behind.vlan}
-    told.lapsed = lapsed_sources(look)
+    told.vlans = set(behind.vlans)
+    told.lapsed, told.cut = lapsed_sources(look), cut_logins(look)
     told.ended = by_switch | {(it.port, it.enode) for it in silent_logins(look)}
     for twice in shared(look, everyone):
         found.append(twice.answer(look))

@@ -44,6 +44,7 @@ class Behind:
     logins: list[tuple[int, bytes]] = field(default_factory=list)  # when port names logged in, in milliseconds
     vlan: int = 0  # of the fabric that is looked at
     others: dict[bytes, int] = field(default_factory=dict)  # further switches, and the VLAN of each
+    vlans: dict[int, set[bytes]] = field(default_factory=dict)  # further VLANs in which switches advertise, and which
     pauses: list[tuple[Port, Pauses]] = field(default_factory=list)
     told: set[Pair] = field(default_factory=set)
     switches: set[bytes] = field(default_factory=set)
@@ -162,8 +163,8 @@ def nobody_listed(behind: Behind) -> Iterator[Answer]:
         if listing.others or asker in met or facts.roles.get(asker) == 1:
             continue
         name = facts.names.get(asker, b"")
-        if any(clock > listing.moment // MILLISECOND and one != name for clock, one in behind.logins):
-            continue  # others came later, of which an RSCN should tell it
+        if facts.notices.get(asker, 0) > listing.moment or any(clock > listing.moment // MILLISECOND and one != name for clock, one in behind.logins):
+            continue  # others came later, of which an RSCN tells it
         said = listing.says or "a list without others"
         text = f"the name server lists no target to it: {listing.command} {times(listing.count)}, {said}; so it asks nobody for a disk"
         step = "a zone with this host and its target in the active zone set, and whether the target is logged in and registered (`show fcns database`, `nsshow`)"
@@ -300,13 +301,14 @@ CONGESTED = "where the switch is congested: the slow receiver behind it (pause c
 def other_fabric(behind: Behind) -> Iterator[Answer]:
     """Logins in the VLAN of another fabric on the same port, that its switch rejects or leaves unanswered."""
     for (port, vlan, enode), facts in behind.facts.fip.items():
-        macs = [colons(mac) for mac, of in behind.others.items() if of == vlan]
+        macs = sorted(map(colons, behind.vlans.get(vlan, ())))
         groups = facts.failed("FLOGI") if vlan != behind.vlan and macs and not facts.done["FLOGI"] else []
         rejected, silent = by_end(groups, End.REJECTED), by_end(groups, End.UNANSWERED)
         for some, words in ((rejected, f"rejects its FLOGI {times(summed(rejected))}: {answers_in(rejected)}"), (silent, f"leaves its FLOGI unanswered {times(summed(silent))}")):
             text = f"in VLAN {vlan}, another fabric than that of VLAN {behind.vlan} on this port, the switch {' or '.join(macs)} {words}"
+            look = next((f"`--fcf {colons(mac)}` looks at that fabric" for mac in behind.vlans.get(vlan, ()) if mac in behind.others), f"a capture of that VLAN alone (`tshark -Y 'vlan.id == {vlan}' -w OUT`) is looked at for itself")
             if some:
-                yield in_fabric(some, text, f"`--fcf {macs[0]}` looks at that fabric; whether this host is to log in there at all", port, enode)
+                yield in_fabric(some, text, f"{look}; whether this host is to log in there at all", port, enode)
 
 
 def in_fabric(some: list[Group], text: str, step: str, port: int, enode: bytes) -> Answer:

@@ -12,6 +12,7 @@ from ..runs.looking import Look
 from .answer import About, Answer, Severity, times
 
 GAP_PERIODS, LEAST_GAP, LONG_GAP = 4, 60_000, 600_000  # periods and milliseconds without any frame that are the capture's
+PORT_PERIOD, SILENT = 90_000, 2  # milliseconds between the keep alives of a VN_Port; periods without one, from which on a clear link message follows from that
 VX_PORT = 11  # the descriptor of a clear link message that names a VN_Port
 HEEDED = 500  # milliseconds: Linux heeds no shorter advertised period
 AGAIN = "its ENode logged in again (FLOGI)"
@@ -122,6 +123,14 @@ class Silence:
     def enode(self) -> bytes:
         return self.login.enode
 
+    @property
+    def is_of_port(self) -> bool:
+        """Of its VN_Port, not of its ENode."""
+        return "VN_Port" in self.why
+
+    def period(self, look: Look) -> int:
+        return PORT_PERIOD if self.is_of_port else look.run.config.period
+
 
 def lapsed_logins(look: Look) -> list[Silence]:
     """The logins that no keep alive held up though none was due: the switch wants none (D), or nobody at all was captured then."""
@@ -132,9 +141,15 @@ def lapsed_logins(look: Look) -> list[Silence]:
 
 
 def silent_logins(look: Look) -> list[Silence]:
-    """The logins whose host fell silent."""
+    """The logins whose host fell silent, and not because the switch had cleared them."""
     lapsed = {id(it.login) for it in lapsed_logins(look)}
-    return [it for it in all_silent(look) if id(it.login) not in lapsed]
+    return [it for it in all_silent(look) if id(it.login) not in lapsed and not is_freed(look, it)]
+
+
+def is_freed(look: Look, it: Silence) -> bool:
+    """The switch cleared the login while no keep alive lacked: from then on none is owed."""
+    place = cleared_first(look, it.login)
+    return place is not None and look.captured[it.port - 1].frames.milliseconds(place) - it.heard < SILENT * it.period(look)
 
 
 def all_silent(look: Look) -> list[Silence]:
@@ -179,6 +194,8 @@ def silent(look: Look) -> Iterator[Answer]:
         groups.setdefault((it.port, it.enode), []).append(it)
     for some in groups.values():
         step = "what the host did then: its link, its driver, its load; a bridge that loses its keep alives"
+        if some[0].is_of_port:
+            step = "the host's driver: it owes a keep alive of this VN_Port each 90 s, beside those of its ENode"
         followers = [f"{colons(it.login.name)}: {it.why}" for it in some[1:]]
         made = Answer(Severity.LOST, silent_text(look, some[0]), step, some[0].port, colons(some[0].login.name), some[0].heard, some[-1].ends, followers=followers)
         made.about, made.enode = About.ALIVE, some[0].enode
@@ -221,10 +238,11 @@ def cleared_logins(look: Look) -> list[Cleared]:
     """The logins that the switch cleared while they were live here."""
     beats, taken, found = beats_of(look), taken_beats(look), []
     with_node = {id(it) for it in look.walk.fabric.logins if it.is_fdisc and is_with_node(look, it)}
+    by_silence = {id(it.login) for it in silent_logins(look)}
     for it in real(look, look.walk.fabric.logins):
         frames, place = look.captured[it.port - 1].frames, cleared_first(look, it)
         at = frames.milliseconds(place) if place is not None else 0
-        if place is not None and not (it.is_fdisc and (it.why.startswith("silent") or id(it) in with_node)):
+        if place is not None and not (it.is_fdisc and (it.why.startswith("silent") or id(it) in with_node)) and id(it) not in by_silence:
             own = [beat for beat in beats.get((it.port, it.enode), []) if it.since + look.run.config.window < beat < at]
             found.append(Cleared(it, at, frames.number(place), own, all((it.port, it.enode, beat) in taken for beat in own)))
     return found
@@ -258,7 +276,7 @@ def why_cleared(some: list[Cleared], period: int) -> tuple[str, str]:
     beats = sum(len(it.beats) for it in some)
     text = f", as if it heard no keep alive: {counted(beats, 'keep alive')} of the host {'stands' if beats == 1 else 'stand'} in this capture before that"
     if not all(it.is_taken for it in some):
-        return f"{text}, and this forwarder doesn't take all of them either", f"the keep alives themselves (`look fields`, `look check`); {log}"
+        return f"{text}, and a right switch wouldn't take all of them", f"the keep alives themselves (`look fields`, `look check`); {log}"
     text += ", well formed, to the switch's MAC and in its VLAN: probably they are lost on the way"
     step = "the path of its keep alives from where this was captured to the switch: a bridge, FIP snooping or a filter may lose FIP to the switch's own MAC"
     return text, f"{step}; capture at the switch's port too"
@@ -289,4 +307,5 @@ def again(look: Look, told: set[tuple[int, bytes]]) -> Iterator[Answer]:
             continue
         text = f"logged in again {times(len(logins))} without a LOGO: {'it' if len(logins) == 1 else 'each'} ends the login before, and those of its further N_Ports"
         step = "the host's log at that time: its link went down and up, or its driver began anew"
-        yield Answer(Severity.LOST, text, step, port, colons(name), logins[0].until, logins[-1].until, ends_of(look, logins))
+        severity = Severity.LOST if len(logins) > 1 else Severity.NOTED  # a link that went down once
+        yield Answer(severity, text, step, port, colons(name), logins[0].until, logins[-1].until, ends_of(look, logins))

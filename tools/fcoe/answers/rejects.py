@@ -71,8 +71,8 @@ def here_text(verdicts: list[str]) -> str:
     """What this forwarder does with the first of the same requests."""
     first = verdicts[0] if verdicts else ""
     if first.startswith("granted"):
-        return "; this forwarder grants it"
-    return f"; this forwarder answers {spelled(first)}" if first else ""
+        return "; a right switch would grant it"
+    return f"; a right switch would answer {spelled(first)}" if first else ""
 
 
 def step_of(look: Look, verdict: str, request: Request) -> str:
@@ -130,7 +130,7 @@ def room_of(look: Look, request: Request) -> Room:
 
 def followers_of(look: Look, requests: list[Request]) -> list[str]:
     """What this forwarder tells of logins that the switch rejected, in one line."""
-    told = look.compared.notices if look.compared else []
+    told = [*look.compared.notices, *look.compared.answers] if look.compared else []
     some = [it for it in told if it.follows and look.request_of(it.follows.port, it.follows.index) in requests]
     return [followers_text(some)] if some else []
 
@@ -149,7 +149,18 @@ class Refusal:
 
     @property
     def got_in(self) -> bool:
-        return any(it.name == self.name and it.port == self.port and self.look.replied(it) for it in self.look.walk.fabric.logins)
+        return bool(self.grants())
+
+    def grants(self) -> list[int]:
+        """Where the port name was granted what it asked for."""
+        own = [at for number_, at in self.look.grants if number_ == self.port]
+        frames = self.look.captured[self.port - 1].frames
+        return [at for at in own if (names := login_names(frames.heard(at))) and names[0] == self.name]
+
+    @property
+    def is_over(self) -> bool:
+        """It was granted that later: a switch may say that it's busy, or know the name for a while."""
+        return any(at > self.requests[-1][1] for at in self.grants())
 
     @property
     def text(self) -> str:
@@ -180,8 +191,8 @@ class Refusal:
             followers = [rivals.fabrics, *followers]
         elif self.verdict == NO_ROOM and (room := room_of(self.look, self.requests[0]).text):
             said += f"; it grants {room}"
-        text = said if self.got_in else f"got no login: {said}"
-        made = Answer(Severity.FAILED, text, step, self.port, colons(self.name), *span_of(self.look, self.requests), followers)
+        text = f"got in, though {said[:1].lower()}{said[1:]} before" if self.is_over else said if self.got_in else f"got no login: {said}"
+        made = Answer(Severity.NOTED if self.is_over else Severity.FAILED, text, step, self.port, colons(self.name), *span_of(self.look, self.requests), followers)
         port, at = self.requests[0]
         made.about, made.enode = About.FURTHER if self.kind == "FDISC" else About.ENTRY, self.look.captured[port - 1].frames.heard(at).source
         return made
@@ -230,7 +241,7 @@ def rejected_here(look: Look, all_seen: list[Seen]) -> Iterator[Answer]:
             groups.setdefault((entry.port, names[0], heard.kind, entry.verdict), []).append(request)
     for (port, name, kind, verdict), requests in groups.items():
         span = span_of(look, requests)
-        text = f"this forwarder rejects {counted(len(requests), kind)}, {spelled(verdict)[len('rejected '):]}; the switch's answer isn't in the captures"
+        text = f"a right switch would reject {counted(len(requests), kind)}, {spelled(verdict)[len('rejected '):]}; the switch's answer isn't in the captures"
         yield Answer(Severity.FAILED, text, step_of(look, verdict, requests[0]), port, colons(name), *span)
 
 

@@ -7,7 +7,7 @@ from ..errors import counted
 from ..exchanges.exchange import End
 from ..exchanges.facts import Facts
 from ..frames.codes import spelled
-from ..frames.heard import KEEP_ALIVE, Heard, colons, fcid
+from ..frames.heard import KEEP_ALIVE, Heard, colons, fcid, is_login
 from ..runs.compare import Compared
 from ..runs.hosts import WELL_KNOWN
 from ..runs.fabric import Login
@@ -19,8 +19,10 @@ from ..runs.steps import next_step
 from .answer import About, Answer, Severity, times
 from .who import SERVICES
 
-NOISE = "dropped ethertype"
-SCSI, INITIATOR = 0x08, 2  # an FC-4 type, and a feature of it that a port registers
+OUTSIDE = ("fip-operation", "fcoe-class", "service-address", "self")  # what other switches may do more with than the run does (docs/DECISIONS.md)
+NOISE, CUT = "dropped ethertype", "dropped truncated"
+OF_LOGINS = ("dropped source-login", "dropped dest-login", "dropped keepalive-unknown", "dropped source-mac")  # where a login lacks
+SCSI, TARGET = 0x08, 1  # an FC-4 type, and a feature of it that a port registers
 LISTED = 1000  # frames of an answer that are named
 STORM, STORM_TIME = 10, 1000  # logins within so many milliseconds that are a storm
 SHOWN = 3  # differences that an answer each is made of
@@ -49,16 +51,15 @@ class Drops:
 
 
 def is_owed(look: Look, it: Compared, lapsed: set[tuple[int, bytes]]) -> bool:
-    """An RSCN that a right switch sends too. Where zones are assumed, none is owed of a host's own further port, nor of another initiator."""
+    """An RSCN that a right switch sends too. Where zones are assumed, it's owed of a target alone: who else is zoned with the host isn't known."""
     _, _, told, _, of = it.request.split(" ")
     ends = [login_of(look, int(word, 16), it.clock) for word in (told, of)]
     if any(one is not None and (one.port, one.enode) in lapsed for one in ends):
         return False
     whom, who = ends
-    is_assumed = look.inputs.is_drawn and not look.inputs.derived and len(look.run.config.zones) <= 1
-    if it.switch != "missing" or whom is None or who is None or not is_assumed:
+    if it.switch != "missing" or whom is None or who is None or look.inputs.are_zones_known:
         return True
-    return whom.enode != who.enode and who.features.get(SCSI, 0) != INITIATOR
+    return whom.enode != who.enode and bool(who.features.get(SCSI, 0) & TARGET)
 
 
 def login_of(look: Look, address: int, clock: int) -> Optional[Login]:
@@ -81,6 +82,7 @@ class Explained:
     lapsed: set[tuple[int, bytes]] = field(default_factory=set)  # hosts whose logins the run alone ended
     listed: set[int] = field(default_factory=set)  # addresses to which the name server lists nobody
     met: set[int] = field(default_factory=set)  # addresses without a login here, of which exchanges tell all the same
+    cut: set[int] = field(default_factory=set)  # ports where the capture cut logins, so that nobody is known there
 
     def has(self, look: Look, it: Compared) -> bool:
         """Whether a difference is told of."""
@@ -110,6 +112,9 @@ class Directory:
         self.fc_map = look.inputs.fc_map
         self.logins = {it.address: it for it in look.walk.fabric.logins}
         self.switch_alone = {old for old, new in look.grants.values() if new is None}
+        followed = [look.request_of(it.port, it.index) for it in look.compared.answers if it.follows] if look.compared else []
+        self.held_here = {look.grants[it][0] for it in followed if it in look.grants}  # addresses that the run lacks because it granted what the switch rejected
+        self.granted = {(port, look.captured[port - 1].frames.heard(at).source) for port, at in look.grants}
 
     def of(self, address: int, said: int) -> str:
         """A name, or else the address as the captures have it."""
@@ -137,7 +142,13 @@ def drops_of(known: Directory, explained: Explained, entry: Frame, said: Heard, 
     if sender in explained.hosts or sender in explained.lapsed or sender in explained.ended and entry.verdict == "dropped keepalive-unknown":
         return None
     made = Drops(entry.verdict, entry.port, ("", ""), run)
+    if entry.verdict == CUT:
+        return made
+    if entry.port in explained.cut and entry.verdict in OF_LOGINS and (run.fc is None or not run.is_fcoe or run.fc.s_id not in known.logins or run.fc.d_id not in known.logins):
+        return None
     made.is_older = entry.verdict == "dropped keepalive-unknown" and not any(it.port == entry.port and (it.enode == said.source or said.source[:3] == known.fc_map) for it in known.logins.values())
+    if made.is_older and any(port == entry.port for port, _ in known.granted):
+        return None
     if not said.is_fcoe or said.fc is None or run.fc is None:
         return made
     login = known.logins.get(run.fc.s_id)
@@ -147,6 +158,8 @@ def drops_of(known: Directory, explained: Explained, entry: Frame, said: Heard, 
     lost = {"dropped source-login": (run.fc.s_id, said.fc.s_id), "dropped dest-login": (run.fc.d_id, said.fc.d_id)}.get(entry.verdict)
     if lost and lost[0] not in known.logins:
         if lost[1] in explained.met:
+            return None
+        if lost[1] in known.held_here:
             return None
         made.never, made.is_there = lost[1], lost[1] in known.switch_alone
     granted = known.fc_map + said.fc.s_id.to_bytes(3, "big")
@@ -193,17 +206,19 @@ def drop_text(it: Drops) -> tuple[Severity, str, str]:
     count, rule = counted(len(it.places), "frame"), it.verdict.removeprefix("dropped ")
     from_to = f" from {it.ends[0]} to {it.ends[1]}" if it.ends[0] else ""
     if it.never is not None and it.is_there:
-        return Severity.NOTED, f"{count}{from_to}: the switch granted {fcid(it.never)}, this forwarder didn't", "`look logins` has both verdicts"
+        return Severity.NOTED, f"{count}{from_to}: the switch granted {fcid(it.never)}, which a right switch wouldn't", "`look logins` has both verdicts"
     if it.granted:
-        return Severity.DROPPED, f"{count}{from_to} dropped by this forwarder ({rule}): {astray_text(it)}", ASTRAY[it.source[3:] == it.granted[3:]]
+        return Severity.DROPPED, f"{count}{from_to} not sent on by a right switch ({rule}): {astray_text(it)}", ASTRAY[it.source[3:] == it.granted[3:]]
     if it.verdict == "dropped dest-login" and it.never is not None:
         return Severity.NOTED, f"{count}{from_to}, which isn't in these captures", "add the capture of its port, to see what becomes of them"
     if it.verdict == "dropped source-login" and it.never is not None:
         return Severity.NOTED, f"{count}{from_to}: {fcid(it.never)} logged in before the capture began", "begin the capture before the host logs in"
     if it.verdict == "dropped zone":
         return Severity.DROPPED, f"{count}{from_to} dropped: no active zone joins the two", "a zone with both port names in the active zone set (`look zones`)"
-    if it.verdict == "dropped truncated":
-        return Severity.NOTED, f"{count}{from_to} were cut by the capture (snap length): what they say isn't judged", "capture whole frames: `tcpdump -s 0`"
+    if rule in OUTSIDE:
+        return Severity.NOTED, f"{count}{from_to} ({it.heard.kind}), {meaning_of(it.verdict)}: what a switch does with them isn't judged here", ""
+    if it.verdict == CUT:
+        return Severity.NOTED, f"{count} cut by the capture (snap length): what they say isn't judged, and where logins are among them nothing that hangs on these", "capture whole frames: `tcpdump -s 0`"
     if it.is_older:
         return Severity.NOTED, f"{count} of a login that is older than the capture (keep alives)", "begin the capture before the host logs in"
     if it.verdict in ("dropped dest-login", "dropped keepalive-unknown"):
@@ -271,10 +286,10 @@ def as_one(look: Look, some: list[Drops]) -> Answer:
     """Drops of one rule between many ends as one answer, those with most frames under it."""
     some = sorted(some, key=lambda it: -len(it.places))
     most, verdict = drop_answer(look, some[0]), some[0].verdict
-    total = sum(len(it.places) for it in some)
+    rule, total = verdict.removeprefix("dropped "), sum(len(it.places) for it in some)
     clocks = [look.run.entries.clocks[place] for it in some for place in (it.places[0], it.places[-1])]
-    text = f"{counted(total, 'frame')} {ends_text(some)} dropped by {verdict.removeprefix('dropped ')}"
-    text += "" if some[0].never is not None else f": {meaning_of(verdict)}"
+    text = f"{counted(total, 'frame')} {ends_text(some)} " + ("" if rule in OUTSIDE else f"dropped by {rule}")
+    text += "" if some[0].never is not None else f"({meaning_of(verdict)}): what a switch does with them isn't judged here" if rule in OUTSIDE else f": {meaning_of(verdict)}"
     followers = [drop_text(it)[1] for it in some]
     return Answer(most.severity, text, most.step, None, "", min(clocks), max(clocks), most.frames, followers, more=total - len(most.frames))
 
@@ -309,7 +324,7 @@ def unanswered(look: Look, some: list[Compared]) -> tuple[str, str]:
     services = {f"{SERVICES.get(it.fc.d_id, 'the address')} ({fcid(it.fc.d_id)})" for it in captured if it.is_fcoe and it.fc}
     senders = {names.get(it.fc.s_id, "") for it in run if it.is_fcoe and it.fc}
     to = f" to {' and '.join(sorted(services))}" if services else ""
-    text = f"the switch left {counted(len(some), some[0].request)}{to} unanswered; this forwarder answers {spelled(some[0].forwarder)}"
+    text = f"the switch left {counted(len(some), some[0].request)}{to} unanswered; a right switch would answer {spelled(some[0].forwarder)}"
     return text, senders.pop() if len(senders) == 1 else ""
 
 
@@ -362,6 +377,11 @@ def commands_text(facts: Facts) -> str:
     return f"{counted(count, 'SCSI command')}, {words}"
 
 
+def cut_logins(look: Look) -> set[int]:
+    """The ports where the capture cut a login request, so that the run knows nobody there."""
+    return {it.number for it in look.captured if it.tidy.cut and any(is_login(it.frames.heard(at)) and not it.frames.is_whole(at) for at in it.host_messages)}
+
+
 def storm_text(look: Look) -> str:
     """That many logged in at once."""
     since = sorted(it.since for it in look.walk.fabric.logins)
@@ -378,8 +398,11 @@ def well(look: Look, facts: Facts) -> Answer:
     names, run = {it.name for it in look.walk.fabric.logins}, look.run
     went = len(run.entries.places(lambda verdict: verdict.startswith("forwarded")))
     told = commands_text(facts) or (f"{counted(went, 'data frame')} went on" if went else "")
-    said = f"{counted(len(names), 'port name')} logged in{storm_text(look)}" + (f", {told}" if told else "") + "; no login was rejected, none fell silent"
+    came = f"{counted(len(names), 'port name')} {'logged in' if look.compared is not None else 'asked to log in'}{storm_text(look)}"
+    if not names:
+        came = "the logins are cut, so who logged in can't be told" if cut_logins(look) else "no login is in these captures"
+    said = came + (f", {told}" if told else "") + ("; no login was rejected, none fell silent" if look.compared is not None and names else "")
     if look.compared is not None:
         equal = sum(1 for it in look.compared.all() if it.state == "equal")
-        said += f"; {counted(equal, 'answer')} of the switch as this forwarder's"
+        said += f"; {counted(equal, 'answer')} of the switch as the standards have {'it' if equal == 1 else 'them'}" if equal else ""
     return Answer(Severity.WELL, said)

@@ -167,8 +167,9 @@ class Engine:
     def is_anew(exchange: Exchange, frame: FcFrame) -> bool:
         """A request that begins another exchange with the same numbers, and isn't a further sight of the same one."""
         view = exchange.views.get(frame.port)
-        has_it = view is not None and ("request" in view.kinds or "command" in view.kinds)
-        return has_it or exchange.request != frame.payload[:256] or frame.moment - exchange.began > 2 * SECOND
+        sights = view.kinds.get("request", 0) + view.kinds.get("command", 0) if view is not None else 0
+        is_turned = sights == 1 and frame.is_from_switch and not exchange.is_from_switch  # both N_Ports are on this port
+        return sights > 0 and not is_turned or exchange.request != frame.payload[:256] or frame.moment - exchange.began > 2 * SECOND
 
     def begin(self, key: Key, frame: FcFrame) -> Exchange:
         if len(self.live) >= MOST_OPEN:
@@ -229,7 +230,8 @@ class Engine:
         """What a frame means for its exchange."""
         if frame.r_ctl & 0xF0 == 0xC0:
             take_link_control(exchange, frame)
-            self.answered(key, exchange, frame)
+            if exchange.end is End.RETURNED:
+                self.answered(key, exchange, frame)
         elif frame.type == 0x00:
             before = exchange.end
             take_basic(exchange, frame)

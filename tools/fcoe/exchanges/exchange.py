@@ -75,6 +75,7 @@ class Exchange:
     began: int  # nanoseconds since 1970
     first: Place
     enode: bytes = b""
+    is_from_switch: bool = False  # the first sight of its request
     rx_id: int = 0xFFFF
     until: int = 0  # when its last frame came
     last: Place = (0, 0)

@@ -129,6 +129,7 @@ class Facts:
     broken: dict[tuple[int, int, int], Broken] = field(default_factory=dict)  # by originator, responder, port
     roles: dict[int, int] = field(default_factory=dict)  # the features that ports registered for SCSI: 1 target, 2 initiator
     listings: dict[int, "Listing"] = field(default_factory=dict)  # what the name server listed to an address, the latest
+    notices: dict[int, int] = field(default_factory=dict)  # when an address was sent an RSCN last
     statistics: Statistics = field(default_factory=Statistics)
     until: int = 0  # the last moment of the captures
     crowded: int = 0
@@ -208,6 +209,8 @@ class Gathered:
             self.take_broken(it)
         if it.command == "RFF_ID" and len(it.request) >= 24 and it.request[23] == 0x08:
             facts.roles[number(it.request[17:20])] = it.request[22] & 3
+        if it.command == "RSCN":
+            facts.notices[it.responder] = max(facts.notices.get(it.responder, 0), it.began)
         if it.command in ("LOGO", "PRLO", "TPRLO") and it.kind in (Kind.ELS, Kind.FIP):
             facts.logouts.append(Logout(it.command, it.began, it.originator, it.responder, it.first))
         if it.kind is Kind.CT:

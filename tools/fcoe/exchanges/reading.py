@@ -65,7 +65,7 @@ def opened(frame: FcFrame) -> Exchange:
     """The exchange that a request begins."""
     kind = kind_of(frame)
     name = {Kind.CT: ct_name, Kind.ELS: els_name, Kind.FIP: els_name}.get(kind)
-    made = Exchange(kind, name(frame.payload) if name else kind.value, frame.s_id, frame.d_id, frame.ox_id, frame.vlan, frame.moment, frame.place, frame.enode)
+    made = Exchange(kind, name(frame.payload) if name else kind.value, frame.s_id, frame.d_id, frame.ox_id, frame.vlan, frame.moment, frame.place, frame.enode, frame.is_from_switch)
     made.request = frame.payload[:256]
     if kind is Kind.FCP:
         take_command(made, frame.payload)

@@ -69,9 +69,10 @@ def in_words(reason: int, explanation: int, is_ct: bool = False) -> str:
 def spelled(verdict: str) -> str:
     """A verdict with the codes of a reject in words: `rejected 09 29 (insufficient resources)`."""
     words = verdict.split(" ")
-    if words[0] not in ("rejected", "refused") or len(words) != 3:
+    if words[0] not in ("rejected", "refused") or len(words) not in (3, 4):
         return verdict
-    return f"{verdict} ({in_words(int(words[1], 16), int(words[2], 16), words[0] == 'refused')})"
+    vendor = f", vendor's {words[3]}" if len(words) == 4 else ""
+    return f"{' '.join(words[:3])} ({in_words(int(words[1], 16), int(words[2], 16), words[0] == 'refused')}{vendor})"
 
 
 def type_text(kind: int, features: Optional[int]) -> str:

@@ -7,7 +7,7 @@ from typing import Iterator, Optional
 
 from ..errors import counted as plural
 from ..frames.fields import FABRIC_PORT, Fields, fields_of
-from ..frames.heard import ADVERTISE, ALL_ENODES, CLEAR, Heard, colons, fcid, number
+from ..frames.heard import ADVERTISE, ALL_ENODES, CLEAR, Heard, colons, fcid, login_names, number
 from .configs import Config, is_advertisement
 from .fabric import ANSWERED, Sent, Walk
 from .forwards import Marked, data_ends, data_entries, sent_on
@@ -55,7 +55,9 @@ CHOICES = {
     "VF_ID": "virtual fabrics aren't in the profile, which writes 0",
     "fabric name": f"the fabric's name; {PROFILE} takes the switch name",
 }
-FLAGS_OFFERED = "FC-BB-5 has FP and SP by what the fabric offers; the profile offers FP alone"
+FLAGS_OFFERED = "FC-BB-5 has FP and SP by what the fabric offers, and F of use in discovery alone; the profile offers FP"
+PADDED = 2140  # bytes of the least advertisement that shows what a padded one is to show
+TOLD = "the reason may be at a port that wasn't captured; and FC-LS-2 lets a switch tell more of its ports"
 # differences that the profile makes in the list of descriptors
 NO_MAC = f"{PROFILE}: rejects and the accept of a LOGO have no MAC descriptor"
 
@@ -123,13 +125,18 @@ def unknown_bits(features: str) -> str:
 def note_of(name: str, kind: str, switch: str, forwarder: str) -> str:
     if name == "class 3" and (switch[:1] in "01234567") != (forwarder[:1] in "01234567"):
         return ""
+    is_list = name == "VLAN" and set(forwarder.split(", ")) <= set(switch.split(", "))
+    if kind.startswith("VLAN") and (is_list or name == "descriptors" and switch.startswith(forwarder) and set(switch[len(forwarder) :].split()) <= {"14"}):
+        return "FC-BB-5: a switch names each VLAN in which it has a fabric for this host"
     if name in ("VLAN tag", "priority (802.1Q)") and kind.startswith("VLAN"):
         return "IEEE 802.1Q: VLAN 0 is a priority without a VLAN"
     if name == "features" and ((FABRIC_PORT in switch) != (FABRIC_PORT in forwarder) or unknown_bits(switch) != unknown_bits(forwarder)):
         return ""
     if name == "FIP flags":
-        apart = {it for it in switch.split() if it not in forwarder.split()} | {it for it in forwarder.split() if it not in switch.split()}
-        return FLAGS_OFFERED if apart <= {"FP", "SP"} else ""
+        apart = set(switch.split()) ^ set(forwarder.split()) - {"none"}
+        return FLAGS_OFFERED if apart <= ({"FP", "SP"} if kind.startswith("Advertisement") else {"FP", "SP", "F"}) else ""
+    if name == "bytes after the Ethertype" and min(int(switch), int(forwarder)) >= PADDED:
+        return "FC-BB-5: padded to the host's Max_FCoE_Size, counted with the Ethernet head or without it"
     if name in ("descriptors", "FIP MAC") and ("reject" in kind or kind.startswith("LOGO")):
         return NO_MAC
     return CHOICES.get(name, "")
@@ -219,6 +226,8 @@ def cause_of(run: Run, walk: Walk, place: int) -> tuple[str, bool]:
 
 def profile_note(entry: Frame, heard: Heard) -> str:
     """What a switch may offer that isn't in the profile."""
+    if entry.verdict in ("dropped fcoe-class", "rejected 0b 00") and (heard.is_fcoe or heard.kind in ("FLOGI", "FDISC")):
+        return f"{PROFILE}: class 3 alone, and no further link services"
     if entry.verdict == "dropped service-address":
         return f"{PROFILE}: the services at FFFFFC and FFFFFD alone answer"
     if heard.is_fcoe and entry.verdict in ("rejected 0b 2c", "refused 0b 00"):
@@ -376,7 +385,8 @@ def compare_notices(run: Run, walk: Walk, found: Comparison, used: Marked) -> No
             answer.frame = told[key].pop(place)[1]
         found.notices.append(answer)
     for key, rest in told.items():
-        found.notices += [Compared(key[0], frame, -1, moment, notice(key), "sent", "none", [Difference("RSCN", "too many", "none")]) for moment, frame in rest]
+        apart = Difference("RSCN", "too many", "none", TOLD, True)
+        found.notices += [Compared(key[0], frame, -1, moment, notice(key), "sent", "none", [apart]) for moment, frame in rest]
 
 
 def cleared(port: Port, at: int, left: list[Sent]) -> Compared:
@@ -410,9 +420,17 @@ def is_phantom(it: Compared) -> bool:
     return it.request in ("FLOGI", "FDISC") and it.switch.endswith(" reject") and it.forwarder.endswith(" accept")
 
 
-def mark_followers(walk: Walk, found: Comparison) -> None:
-    """RSCNs and clear link messages that tell of a login which the switch rejected follow from that."""
+def mark_followers(run: Run, walk: Walk, found: Comparison) -> None:
+    """RSCNs and clear link messages that tell of a login which the switch rejected follow from that, and so do rejects of a name that it holds here."""
     causes = {(it.port, it.index): it for it in found.answers if is_phantom(it)}
+    outside = {(it.port, run.ports[it.port - 1].host(it.index).source) for it in found.answers if it.request == "FLOGI" and it.forwarder == "FLOGI reject" and it.state == "choice"}
+    for it in found.answers if outside else ():
+        if it.request == "FDISC" and (it.port, run.ports[it.port - 1].host(it.index).source) in outside:
+            explain(it, (f"{PROFILE}: the FLOGI of its ENode is rejected here", False))
+    for it in found.answers if causes else ():
+        if it.request in ("FLOGI", "FDISC") and it.forwarder.endswith(" reject") and it.state == "different":
+            names = login_names(run.ports[it.port - 1].host(it.index))
+            it.follows = next((causes[login.granted_frame] for login in walk.fabric.logins if names and login.name == names[0] and login.granted_frame in causes), None)
     for login in walk.fabric.logins if causes else ():
         cause = causes.get(login.granted_frame)
         names = (fcid(login.address),) if login.is_fdisc else (fcid(login.address), colons(login.enode))
@@ -431,7 +449,7 @@ def compare_advertisements(run: Run, walk: Walk, found: Comparison, used: Marked
             if not is_advertisement(heard) or heard.destination != ALL_ENODES:
                 continue
             used.add(port.number, at)
-            if heard.data in seen or heard.source != run.config.mac:
+            if heard.data in seen or heard.source != run.config.mac or heard.vlan not in (0, run.config.vlan):
                 continue
             seen.add(heard.data)
             answer = Compared(port.number, port.frames.number(at), -1, port.frames.milliseconds(at), "Advertisement to all", "sent", "sent" if ours else "none yet (no period passed)")
@@ -450,7 +468,7 @@ def compare(run: Run, walk: Walk) -> Optional[Comparison]:
     compare_forwards(run, walk, found, used)
     compare_notices(run, walk, found, used)
     compare_clears(run, walk, found, used)
-    mark_followers(walk, found)
+    mark_followers(run, walk, found)
     compare_advertisements(run, walk, found, used)
     for port in run.ports:
         for at in port.replies:
@@ -477,7 +495,7 @@ def states_in(sums: Counter[str]) -> dict[str, str]:
 
 def followers_text(some: list[Compared]) -> str:
     """What follows from differences, in one line."""
-    kinds = Counter("RSCN" if it.request.startswith("RSCN") else "clear link message" for it in some)
+    kinds = Counter("RSCN" if it.request.startswith("RSCN") else "clear link message" if it.index < 0 else f"reject of a {it.request}" for it in some)
     told = " and ".join(plural(count, kind) for kind, count in kinds.items())
     return f"{told} {'follows' if len(some) == 1 else 'follow'} from it"
 

@@ -6,7 +6,7 @@ from typing import Iterable, Optional
 
 from ..errors import Refused, meant
 from ..files import text_of
-from ..frames.heard import ADVERTISE, LOGIN, SOLICIT, VLAN_REQUEST, VLAN_TELL, Heard, colons, is_login, login_names, number
+from ..frames.heard import ADVERTISE, LOGIN, LOGIN_REPLY, SOLICIT, VLAN_REQUEST, VLAN_TELL, Heard, colons, is_login, login_names, number
 from ..numerals import whole
 
 
@@ -218,6 +218,20 @@ def vlan_of(frames: list[Heard], mac: bytes) -> Optional[int]:
     return max(counts, key=lambda it: (counts[it], it)) if counts else None
 
 
+def vlans_of(frames: Iterable[Heard], mac: bytes) -> set[int]:
+    """The VLANs in which a switch advertises itself."""
+    return {it.vlan for it in frames if is_advertisement(it) and it.source == mac and it.vlan}
+
+
+def busiest(frames: list[Heard], mac: bytes, vlans: set[int]) -> int:
+    """Of several VLANs the one with most logins and FCoE frames to and from a switch, or else the least."""
+    counts: Counter[int] = Counter()
+    for it in frames:
+        if it.vlan in vlans and mac in (it.source, it.destination) and (it.is_fcoe or it.operation in (LOGIN, LOGIN_REPLY)):
+            counts[it.vlan] += it.count
+    return min(vlans, key=lambda it: (-counts[it], it))
+
+
 def map_of(frames: list[Heard]) -> Optional[bytes]:
     """The FC-MAP of the sources of FCoE frames: their first three bytes where the rest is the S_ID."""
     counts: Counter[bytes] = Counter()
@@ -259,7 +273,10 @@ def values_drawn(frames: list[Heard], wanted: Optional[bytes], beat: int = 0) ->
     mac, how, known = switch_of(frames, wanted)
     if mac is None:
         mac, how = b"\x00\x05\x1e\x00\x00\x02", "made up: neither advertisements nor frames to a forwarder are here"
-    said = known.get(mac)
+    said, vlans = known.get(mac), vlans_of(frames, mac)
+    if len(vlans) > 1:
+        vlan = busiest(frames, mac, vlans)
+        said = advertised([it for it in frames if is_advertisement(it) and it.source == mac and it.vlan == vlan][-1])
     config = Config(mac, (said.vlan if said and said.vlan else vlan_of(frames, mac)) or 1)
     config.fc_map = (said.fc_map if said else None) or map_of(frames) or config.fc_map
     config.switch = said.name if said and said.name and any(said.name) else b"\x10\x00" + mac

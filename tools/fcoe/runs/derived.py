@@ -4,6 +4,7 @@ from dataclasses import dataclass, field
 from itertools import combinations
 from typing import Iterator, Optional
 
+from ..errors import counted
 from ..frames.fields import LISTED
 from ..frames.heard import CLEAR, Heard, colons, fcid, login_names, number
 from .compare import parts
@@ -14,7 +15,8 @@ from .replies import Reply, replies_to
 from .steps import NO_ROOM
 
 NO_TYPES = "refused 09 07"
-RFT_ID = 0x0217
+RFT_ID, RFF_ID = 0x0217, 0x021F
+SCSI, INITIATOR = 0x08, 2  # an FC-4 type, and a feature of it that a port registers
 MOST_NAMES = 40  # of which zones are derived
 Pair = frozenset[bytes]
 
@@ -102,6 +104,7 @@ class Evidence:
 
     joined: set[Pair] = field(default_factory=set)
     apart: dict[Pair, str] = field(default_factory=dict)
+    initiators: set[bytes] = field(default_factory=set)  # which are in no zone with each other, by custom
 
     def split(self) -> dict[Pair, str]:
         return {pair: why for pair, why in self.apart.items() if pair not in self.joined}
@@ -118,6 +121,8 @@ def from_lists(told: list[Told], found: Evidence) -> dict[int, bytes]:
             continue
         if fc.command == RFT_ID and verdict == "answered":
             types[asker] = fc.payload[20:52]
+        if fc.command == RFF_ID and fc.payload[22:24] == bytes([INITIATOR, SCSI]):
+            found.initiators.add(asker)
         if fc.command not in LISTED or verdict not in ("answered", NO_TYPES) or len(fc.payload) < 20:
             continue
         addresses, is_whole = listed(it.port, it.reply, LISTED[fc.command]) if verdict == "answered" else (set[int](), True)
@@ -166,17 +171,20 @@ def ordinal(count: int) -> str:
     return {1: "first", 2: "second", 3: "third"}.get(count, f"{count}th")
 
 
-def with_zones(inputs: Inputs, split: dict[Pair, str]) -> None:
-    """Puts zones in place of the one of all names."""
+def with_zones(inputs: Inputs, split: dict[Pair, str], initiators: set[bytes]) -> None:
+    """Puts zones in place of the one of all names. That initiators alone are apart is as usual, and no answer."""
     names = sorted({name for members in inputs.config.zones.values() for name in members})
     groups = groups_of(names, set(split))
     inputs.config.zones = {f"seen{place}": members for place, members in enumerate(groups, 1)}
     lines = [it for it in inputs.text.splitlines() if not it.startswith("zone ")]
     lines += [f"zone {name} " + " ".join(colons(it) for it in members) for name, members in inputs.config.zones.items()]
     inputs.text = "\n".join(lines) + "\n"
-    pair, why = next(iter(split.items()))
-    more = f", and {len(split) - 1} more pairs" if len(split) > 1 else ""
-    inputs.derived.append(f"zones: {' and '.join(colons(it) for it in sorted(pair))} are apart, since {why}{more}")
+    told = {pair: why for pair, why in split.items() if not pair <= initiators}
+    for some, said in ((told, inputs.derived), ({} if told else split, inputs.details)):
+        if some:
+            pair, why = next(iter(some.items()))
+            more = f", and {counted(len(some) - 1, 'more pair')}" if len(some) > 1 else ""
+            said.append(f"zones: {' and '.join(colons(it) for it in sorted(pair))} are apart, since {why}{more}")
 
 
 def derive(inputs: Inputs, has_zones: bool) -> None:
@@ -195,5 +203,5 @@ def derive(inputs: Inputs, has_zones: bool) -> None:
     from_data(inputs.ports, inputs.switches, holders, evidence)
     split = evidence.split()
     if split and not has_zones and 2 <= len(Counter(name for members in inputs.config.zones.values() for name in members)) <= MOST_NAMES:
-        with_zones(inputs, split)
+        with_zones(inputs, split, evidence.initiators)
     inputs.details += inputs.derived

@@ -108,6 +108,7 @@ class Inputs:
     fc_map: bytes = FPMA + b"\0"  # of the captures, which --config may have otherwise
     derived: list[str] = field(default_factory=list)  # what the switch's own answers told of its zones
     details: list[str] = field(default_factory=list)  # what else was assumed
+    are_zones_known: bool = False  # they were given, by words, a configuration or a switch's zoning
 
 
 def remarks_on(port: Port) -> list[str]:
@@ -118,7 +119,7 @@ def remarks_on(port: Port) -> list[str]:
         said.append(f"{port.label}: times go back {counted(len(back), 'time')} (first at frame {frames.number(back[0])}): a frame counts at the latest time so far; `reordercap` sorts a capture")
     short = [at for at, (size, length) in enumerate(zip(frames.sizes, frames.lengths)) if length > size]
     if short:
-        said.append(f"{port.label}: {counted(len(short), 'frame')} cut by the snap length (first: frame {frames.number(short[0])}) and dropped as `truncated`: capture with `-s 0`")
+        said.append(f"{port.label}: {counted(len(short), 'frame')} cut by the snap length (first: frame {frames.number(short[0])}): capture with `-s 0`")
     return said
 
 
@@ -287,9 +288,11 @@ def gather(names: list[str], room: str, options: Options) -> Inputs:
         raise Refused(without_fabric(names[0], ports))
     drawn = draw(frames, options.switch, options.window, options.zones, beat_of(ports))
     inputs = Inputs(ports, drawn.config, "\n".join(drawn.lines) + "\n", remarks, set(), True, drawn.config.fc_map)
+    inputs.are_zones_known = bool(options.zones)
     if options.config is not None:
         inputs.text = text_of(options.config)
         inputs.config, inputs.is_drawn = config_in(options.config, inputs.text), False
+        inputs.are_zones_known = True
         check_config(inputs, drawn, options.config)
     else:
         remarks += drawn.remarks

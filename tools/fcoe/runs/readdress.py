@@ -117,7 +117,10 @@ def grants_seen(ports: list[Port], mac: bytes) -> dict[Request, int]:
             names = login_names(heard) if is_login(heard) else None
             if names is None:
                 continue
-            address = granted_in(port.frames.heard(replies[at])) if at in replies else told_by(said[names[0]], at)
+            if at in replies:
+                address = granted_in(port.frames.heard(replies[at]))
+            else:
+                address = told_by(said[names[0]], at) if heard.destination == mac else None
             if address is not None:
                 seen[(port.number, at)] = address
     return seen

@@ -7,6 +7,8 @@ from .inputs import Port
 from .pairs import replies_of
 from .readdress import Request
 
+VENDORS = 0xFF  # the reason of a reject whose meaning is in the vendor's byte
+
 
 @dataclass
 class Reply:
@@ -31,7 +33,7 @@ def verdict_of(reply: Heard) -> str:
     if fc.kind == 0x20:
         return f"refused {payload[13]:02x} {payload[14]:02x}" if fc.command == 0x8001 and len(payload) >= 15 else "answered"
     if payload[:1] == b"\x01" and len(payload) >= 7:
-        return f"rejected {payload[5]:02x} {payload[6]:02x}"
+        return f"rejected {payload[5]:02x} {payload[6]:02x}" + (f" {payload[7]:02x}" if payload[5] == VENDORS and len(payload) >= 8 else "")
     return "accepted"
 
 

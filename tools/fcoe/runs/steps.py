@@ -21,7 +21,7 @@ SERVICE_STEPS = {
     "refused 09 07": "whether the others registered that type (RFT_ID), and are zoned with the asker: `look names --at`, `look zones --at`",
     "refused 09 02": "whether that name is logged in, and zoned with the asker: `look names --at`, `look zones --at`",
 }
-BY_REASON = {"05": "whether the switch takes it later, and its log at that time: it says that it is busy"}
+BY_REASON = {"ff": "what the switch's vendor calls its byte: the switch's log at that time, its documents", "05": "whether the switch takes it later, and its log at that time: it says that it is busy"}
 BY_EXPLANATION = {
     "0d": "the port name: whether its form is right, and whether the switch lets it in (port security, fabric binding)",
     "0e": "the node name: whether its form is right, and whether the switch lets it in (port security, fabric binding)",

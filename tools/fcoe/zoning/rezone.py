@@ -79,7 +79,7 @@ def with_lines(look: Look, lines: Lines, moments: list[int]) -> Inputs:
     config = replace(look.inputs.config, zones=zones, sets=dict(lines.sets), activations=activations)
     details = [it for it in look.inputs.details if not it.startswith(("one zone of ", "no zone: ", "zones: "))]
     derived = [it for it in look.inputs.derived if not it.startswith("zones: ")]
-    return replace(look.inputs, ports=look.ports, config=config, text=text, remarks=look.inputs.remarks + lines.remarks, derived=derived, details=details)
+    return replace(look.inputs, ports=look.ports, config=config, text=text, remarks=look.inputs.remarks + lines.remarks, derived=derived, details=details, are_zones_known=True)
 
 
 def rezoned(look: Look, plans: list[tuple[Plan, int]], room: str, name: str) -> Look:
