@@ -253,7 +253,8 @@ def at_once(pick: Pick, seconds: float) -> Edit:
         assert fc is not None
         for place in range(at, len(tape)):
             one = hear(tape[place].data)
-            if one.kind == "FCP_CMND" and one.source != SWITCH and one.fc and one.fc.s_id == fc.s_id and one.fc.d_id == fc.d_id and tape[place].moment > tape[at].moment + seconds * 1e9:
+            ends = one.fc and (one.fc.s_id, one.fc.d_id)
+            if one.kind == "FCP_CMND" and one.source != SWITCH and ends == (fc.s_id, fc.d_id) and tape[place].moment > tape[at].moment + seconds * 1e9:
                 made = list(tape)
                 for number in exchange_of(tape, place):
                     data = renumbered(tape[number].data, fc.ox_id)

@@ -3,7 +3,7 @@
 The run is good_runs.base_tapes(): seven minutes of an initiator with a second N_Port, a target and another initiator at one forwarder."""
 from dataclasses import dataclass
 
-from check_edits import SWITCH, Edit, Pick, Tape, add, again, all_of, before, body, checked, cut, descriptor, drop, each, fip, frame, header, move, payload, put, resized
+from check_edits import SWITCH, Edit, Pick, Tape, add, again, all_of, body, checked, cut, descriptor, drop, each, frame, header, move, payload, put, resized
 from check_edits import behind_fc as behind
 from fault_edits import (
     Command, all_tagged, answer_to, at_once, at_target, before_frame, bytes_at, every, in_exchange, late_answer, more_alive, only, own_abts, part, rebuilt, reused, slower, tagged, unanswered, without_exchange,

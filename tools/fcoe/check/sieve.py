@@ -15,6 +15,7 @@ RESPONDER, END_SEQUENCE, OFFSET_HELD, FILL, UNGIVEN = 0x800000, 0x080000, 0x0000
 WRITES, SENSE_HELD, CODE_HELD, UNDER = 0x01, 0x02, 0x01, 0x08
 HEAD = struct.Struct(">IBBHHHI")  # TYPE and F_CTL, SEQ_ID, DF_CTL, SEQ_CNT, OX_ID, RX_ID, PARAMETER
 HEAD_AT, HEAD_SIZE, BEHIND = 8, 24, 8  # where these stand in the FC header, its size, and bytes behind the payload
+LEAST = {COMMAND: 32, READY: 8, RESPONSE: 24, DATA: 0}  # bytes of a payload that can be told
 MOST_OPEN = 20_000
 SECOND = 1_000_000_000
 Key = tuple[int, int, int]
@@ -28,6 +29,28 @@ class Known(NamedTuple):
     s_id: int
     d_id: int
     sender: int
+
+
+class Head(NamedTuple):
+    """What the header of a frame says beside its flow."""
+
+    f_ctl: int
+    seq_id: int
+    df_ctl: int
+    seq_cnt: int
+    ox_id: int
+    rx_id: int
+    offset: int
+
+
+def head_of(data: bytes, fc_at: int) -> Head:
+    typed, *others = HEAD.unpack_from(data, fc_at + HEAD_AT)
+    return Head(typed & 0xFFFFFF, *others)
+
+
+def soundness(data: bytes, fc_at: int) -> tuple[bytes, bool]:
+    """EOF with what is reserved behind it, and whether the CRC is right."""
+    return data[-4:], crc32(data[fc_at:-8]) == int.from_bytes(data[-8:-4], "little")
 
 
 class Unit:
@@ -53,6 +76,21 @@ class Unit:
             return 1
         return 2 if rx_id == self.rx_id else 3
 
+    def order(self, head: Head) -> Hashable:
+        """How a frame stands to the one before it in its sequence."""
+        due = self.running.get(head.f_ctl & RESPONDER)
+        return head.seq_cnt == 0 if due is None else (head.seq_id == due[0], head.seq_cnt - due[1], head.offset == due[2])
+
+    def told(self, known: Known, head: Head, data: bytes, size: int) -> Hashable:
+        """What rules ask about the payload."""
+        if known.kind == DATA:
+            return self.data(head.offset, size - (head.f_ctl & FILL)) if head.f_ctl & OFFSET_HELD else size
+        content = data[known.fc_at + HEAD_SIZE :]
+        if not size >= LEAST[known.kind] <= len(content):
+            self.is_taken = True
+            return None
+        return self.command(content, size) if known.kind == COMMAND else self.ready(content, size) if known.kind == READY else self.response(content, size)
+
     def command(self, content: bytes, size: int) -> Hashable:
         self.length, self.flags = number(content[28:32]), content[11]
         return content[9] & 7, content[10], content[11], self.length > 0, size == 32 + 4 * (content[11] >> 2)
@@ -73,7 +111,6 @@ class Unit:
         return offset + size <= self.length, self.begin <= offset and offset + size <= self.end
 
 
-LEAST = {COMMAND: 32, READY: 8, RESPONSE: 24, DATA: 0}  # bytes of a payload that can be told
 
 
 class Sieve:
@@ -126,25 +163,12 @@ class Sieve:
     def take(self, at: int, flow: int, known: Known) -> None:
         """A frame of FCP, with the command that it belongs to."""
         data, length = self.frames.data(at), self.frames.lengths[at]
-        typed, seq_id, df_ctl, seq_cnt, ox_id, rx_id, offset = HEAD.unpack_from(data, known.fc_at + HEAD_AT)
-        f_ctl, size = typed & 0xFFFFFF, length - known.fc_at - HEAD_SIZE - BEHIND
-        back = f_ctl & RESPONDER
-        key = (known.d_id, known.s_id, ox_id) if back else (known.s_id, known.d_id, ox_id)
+        head, size = head_of(data, known.fc_at), length - known.fc_at - HEAD_SIZE - BEHIND
+        back = head.f_ctl & RESPONDER
+        key = (known.d_id, known.s_id, head.ox_id) if back else (known.s_id, known.d_id, head.ox_id)
         unit = self.unit_of(key, known.kind == COMMAND and not back)
-        is_whole = len(data) == length
-        sound = (data[-4:], crc32(data[known.fc_at : -8]) == int.from_bytes(data[-8:-4], "little")) if is_whole else None
-        due = unit.running.get(back)
-        order = seq_cnt == 0 if due is None else (seq_id == due[0], seq_cnt - due[1], offset == due[2])
-        moved = size - (f_ctl & FILL)
-        told: Hashable = None
-        if known.kind == DATA:
-            told = unit.data(offset, moved) if f_ctl & OFFSET_HELD else size
-        elif size >= LEAST[known.kind] <= len(data) - known.fc_at - HEAD_SIZE:
-            content = data[known.fc_at + HEAD_SIZE :]
-            told = unit.command(content, size) if known.kind == COMMAND else unit.ready(content, size) if known.kind == READY else unit.response(content, size)
-        else:
-            unit.is_taken = True
-        sign = (flow, f_ctl, df_ctl, sound, size & 3, order, unit.given(rx_id), told)
+        sound = soundness(data, known.fc_at) if len(data) == length else None
+        sign = (flow, head.f_ctl, head.df_ctl, sound, size & 3, unit.order(head), unit.given(head.rx_id), unit.told(known, head, data, size))
         if not unit.signs or unit.signs[-1] != sign:
             unit.signs.append(sign)
             unit.senders.add(known.sender)
@@ -152,11 +176,11 @@ class Sieve:
         if size > self.largest.get(flow, -1):
             self.largest[flow] = size
             unit.is_taken = True
-        if f_ctl & END_SEQUENCE:
+        if head.f_ctl & END_SEQUENCE:
             unit.running.pop(back, None)
             self.may_close(key, unit, known.kind, bool(back))
         else:
-            unit.running[back] = seq_id, (seq_cnt + 1) & 0xFFFF, offset + moved
+            unit.running[back] = head.seq_id, (head.seq_cnt + 1) & 0xFFFF, head.offset + size - (head.f_ctl & FILL)
 
     def unit_of(self, key: Key, is_command: bool) -> Unit:
         """The command that a frame belongs to; a further one with the OX_ID of an open one is taken with it."""

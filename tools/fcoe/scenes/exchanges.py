@@ -3,7 +3,7 @@ from ..frames.heard import Heard
 from .acts import ABORTS, ASKS_STRANGE, ECHOES, LOGS_OUT, REFUSES, REFUSES_PRLI
 from .changes import in_payload, wrong_check
 from .holding import AT_PEER, COMMAND, FABRIC_LOGIN, FIRST, FLOGI, IN_FABRIC, LATER, LINK_SERVICE, NEW_OX_ID, PRLI_PEER, answers, stays, upto_peer
-from .script import FCOE, Astray, Begin, Holds, Like, Lose, Never, Rewrite, Scene, Setup, Wait, Want, World, kind
+from .script import FCOE, Astray, Begin, Bend, Holds, Like, Lose, Never, Rewrite, Scene, Setup, Wait, Want, World, kind
 
 PLOGI, SERVICES, SEQUENCES, IDENTIFIERS = "FC-LS-2, PLOGI", "FC-LS-2", "FC-FS-3", "FC-FS-3, exchange identifiers"
 THERE, COMMANDS = Setup(peer="there"), frozenset({"commands"})
@@ -14,6 +14,13 @@ USES = Like(("PRLI", "FCP_CMND", "FCP_DATA"), to="peer", of="host", words="PRLI 
 GIVES_UP = Like(("ABTS", "REC", "LOGO"), to="peer", words="ABTS, REC or LOGO to the peer")
 STORAGE = Like(("FCP_CMND", "FCP_DATA"), to="peer", of="host", words="FCP to the peer")
 REPLY = Like(("LS_ACC", "LS_RJT"), to="peer", of="host", words="LS_ACC or LS_RJT to the peer")
+LOSSES: tuple[tuple[str, str, Bend], ...] = (
+    ("command-lost", "A command is lost", Lose(COMMAND, 1, from_host=True)),
+    ("response-lost", "A response is lost", Lose(kind("FCP_RSP"), 1)),
+    ("response-broken", "The CRC of a response is wrong", Rewrite(wrong_check, "the CRC is wrong", kind("FCP_RSP"), 1)),
+    ("ready-lost", "What asks for data is lost", Lose(kind("FCP_XFER_RDY"), 1)),
+    ("data-lost", "Data of a write are lost", Lose(kind("FCP_DATA", to="peer"), 1, from_host=True)),
+)
 
 
 def is_stray(heard: Heard, world: World) -> bool:
@@ -67,13 +74,7 @@ SCENES = (
             THERE,
             COMMANDS,
         )
-        for name, what, bend in (
-            ("command-lost", "A command is lost", Lose(COMMAND, 1, from_host=True)),
-            ("response-lost", "A response is lost", Lose(kind("FCP_RSP"), 1)),
-            ("response-broken", "The CRC of a response is wrong", Rewrite(wrong_check, "the CRC is wrong", kind("FCP_RSP"), 1)),
-            ("ready-lost", "What asks for data is lost", Lose(kind("FCP_XFER_RDY"), 1)),
-            ("data-lost", "Data of a write are lost", Lose(kind("FCP_DATA", to="peer"), 1, from_host=True)),
-        )
+        for name, what, bend in LOSSES
     ),
     Scene(
         "target-busy",
