@@ -8,7 +8,8 @@ use Rattle.fab_policy.specs.declared.line.Line.{Line}
 use Rattle.fab_policy.specs.declared.line.Line.TheVariants.{Tick, Frame}
 use Rattle.fab_policy.specs.declared.verdict.Verdict.{Verdict}
 use Rattle.pcap_file.specs.declared.Record.{Record}
-use Rattle.fab_replay.specs.Front.{IsFirstWrong, IsGatheredTo, IsNextFrame, expects_tick, has_left}
+use Rattle.fab_replay.specs.Front.{IsGatheredTo, has_left}
+use Rattle.fab_replay.specs.FrontFrom.{IsFirstWrongFrom, IsNextFrameFrom, expects_tick_from}
 use Rattle.fab_replay.specs.Lines.{IsLineAt, IsOfLine, IsUnread, behind_by, end_fault, number_behind}
 use Rattle.fab_replay.specs.Steps.{IsFound, IsReached, Scene}
 use Rattle.fab_replay.specs.declared.fault.CheckFault.{CheckFault}
@@ -34,18 +35,18 @@ module _ (x : Scene) (J : Journal) (F : Contents) (p : Place) (h : IsReached x J
   all_gathered : IsGatheredTo x.settings x.records x.stop J
   all_gathered = gathered_all x.settings x.records x.stop J none
 
-  module _ (left : has_left x.settings x.records J ≡ false) (unexpected : expects_tick x.settings x.records J ≡ false) where
-    pub tick_behind : (n : ℕ) (q : Place) (m : ℕ) (ended : List ℕ) → n ≡ number_behind p.format p.entries → IsLineAt x.bytes p q (Tick m ended) → IsFirstWrong x.settings x.records x.stop x.bytes n why.Tick
+  module _ (left : has_left x.settings x.records J ≡ false) (unexpected : expects_tick_from x.settings x.from x.records J ≡ false) where
+    pub tick_behind : (n : ℕ) (q : Place) (m : ℕ) (ended : List ℕ) → n ≡ number_behind p.format p.entries → IsLineAt x.bytes p q (Tick m ended) → IsFirstWrongFrom x.settings x.from x.records x.stop x.bytes n why.Tick
     tick_behind n q m ended number at = wrong_here x J F p h all_gathered n why.Tick number (Tick m ended, at.spells, inr (unexpected, refl))
 
-    none_next : (port index : ℕ) (told : Option ℕ) (r : Record) → IsNextFrame x.settings x.records J port index told r → ⊥
+    none_next : (port index : ℕ) (told : Option ℕ) (r : Record) → IsNextFrameFrom x.settings x.from x.records J port index told r → ⊥
     none_next port index told r n =
         let is = n.is in
         let own : port ≡ 1 + n.place = omega (arith, is) in
         let both : true ≡ false = sym (left_some x.settings (λ w. true) 1 x.records J n.place port n.records r n.later n.are own n.next refl) ∙ left in
         cc
 
-    pub frame_behind : (n : ℕ) (q : Place) (port index : ℕ) (verdict : Verdict) (told : Option ℕ) → n ≡ number_behind p.format p.entries → IsLineAt x.bytes p q (Frame port index verdict told) → IsFirstWrong x.settings x.records x.stop x.bytes n why.Frame
+    pub frame_behind : (n : ℕ) (q : Place) (port index : ℕ) (verdict : Verdict) (told : Option ℕ) → n ≡ number_behind p.format p.entries → IsLineAt x.bytes p q (Frame port index verdict told) → IsFirstWrongFrom x.settings x.from x.records x.stop x.bytes n why.Frame
     frame_behind n q port index verdict told number at = wrong_here x J F p h all_gathered n why.Frame number (port, index, told, (verdict, at.spells), unexpected, none_next port index told)
 
     pub line_behind : (q : Place) (l : Line) → IsLineAt x.bytes p q l → IsFound x (behind_by l p)
@@ -60,7 +61,7 @@ module _ (x : Scene) (J : Journal) (F : Contents) (p : Place) (h : IsReached x J
   text_behind _ ne u = absurd u
 
   -- what is read there, a line or none
-  pub fault_behind : (left : has_left x.settings x.records J ≡ false) (unexpected : expects_tick x.settings x.records J ≡ false) {b : List ℕ} (q : Place) (r : Result Line CheckFault) → x.bytes ≡ b → (drop p.at b ≡ [] → ⊥) → IfOk r (λ l. IsLineAt b p q l) → IfErr r (λ e. IsUnread b p e × (q ≡ p)) → IsFound x (end_fault r p)
+  pub fault_behind : (left : has_left x.settings x.records J ≡ false) (unexpected : expects_tick_from x.settings x.from x.records J ≡ false) {b : List ℕ} (q : Place) (r : Result Line CheckFault) → x.bytes ≡ b → (drop p.at b ≡ [] → ⊥) → IfOk r (λ l. IsLineAt b p q l) → IfErr r (λ e. IsUnread b p e × (q ≡ p)) → IsFound x (end_fault r p)
   fault_behind left unexpected q (Ok l) same some line unread = line_behind left unexpected q l (line_as same refl line)
   fault_behind left unexpected {b} q (Err e) same some line unread = text_behind e (subst (λ t. drop p.at t ≡ [] → ⊥) (sym same) some) (unread_as p e same unread.0)
 

@@ -5,12 +5,12 @@ use Rattle.std.proofs.lemmas.Bool.{le-leb}
 use Rattle.std.proofs.lemmas.List.Folds.{list_any-append, list_all-append}
 use Rattle.fab_config.specs.Settings.{Settings}
 use Rattle.fab_policy.specs.Growing.{AreFrom}
-use Rattle.fab_policy.specs.Journal.{Journal, clock}
+use Rattle.fab_policy.specs.Journal.{Journal}
 use Rattle.fab_gather.specs.Keeping.{IsAhead}
 use Rattle.fab_policy.specs.Legal.{IsLeastOf, left_of, window_start, windows_left}
 use Rattle.fab_gather.specs.Looks.{Stop}
 use Rattle.pcap_file.specs.declared.Record.{Record}
-use Rattle.fab_replay.specs.Front.{IsGatheredTo, expects_tick, has_left, is_at}
+use Rattle.fab_replay.specs.Front.{IsGatheredTo, expects_tick_at, has_left, is_at}
 use Rattle.fab_replay.specs.Steps.{HoldSame}
 use Rattle.fab_replay.proofs.ListLemmas.{none_below, none_any, or_first, or_then, both_true, and_not}
 
@@ -70,17 +70,17 @@ any_of test [] h = absurd (cc)
 any_of test (m ∷ l) h = refl
 
 -- one is, on the way to the window of the next frames
-pub tick_expected : (c : Settings) (ins : List (List Record)) (J : Journal) (w : ℕ) → IsLeastOf (windows_left c 1 ins J) w → IfSome (clock J) (λ t. t < w) → expects_tick c ins J ≡ true
-tick_expected c ins J w least lt =
-    both_true _ _ (any_of (λ m. eqb m w) (windows_left c 1 ins J) least.0) (ap not (below_at (clock J) w (windows_left c 1 ins J) lt least.1))
+pub tick_expected : (c : Settings) (o : Option ℕ) (ins : List (List Record)) (J : Journal) (w : ℕ) → IsLeastOf (windows_left c 1 ins J) w → IfSome o (λ t. t < w) → expects_tick_at o c ins J ≡ true
+tick_expected c o ins J w least lt =
+    both_true _ _ (any_of (λ m. eqb m w) (windows_left c 1 ins J) least.0) (ap not (below_at o w (windows_left c 1 ins J) lt least.1))
 
 -- none is, where some frame of the clock's window is left
-pub tick_unexpected : (c : Settings) (ins : List (List Record)) (J : Journal) → list_any (is_at (clock J)) (windows_left c 1 ins J) ≡ true → expects_tick c ins J ≡ false
-tick_unexpected c ins J is = and_not (has_left c ins J) _ is
+pub tick_unexpected : (c : Settings) (o : Option ℕ) (ins : List (List Record)) (J : Journal) → list_any (is_at o) (windows_left c 1 ins J) ≡ true → expects_tick_at o c ins J ≡ false
+tick_unexpected c o ins J is = and_not (has_left c ins J) _ is
 
 -- none is, where no frame is left
-pub tick_never : (c : Settings) (ins : List (List Record)) (J : Journal) → windows_left c 1 ins J ≡ [] → (has_left c ins J ≡ false) × (expects_tick c ins J ≡ false)
-tick_never c ins J none = (ap (list_any (λ w. true)) none, ap (λ l. list_any (λ w. true) l && not (list_any (is_at (clock J)) l)) none)
+pub tick_never : (c : Settings) (o : Option ℕ) (ins : List (List Record)) (J : Journal) → windows_left c 1 ins J ≡ [] → (has_left c ins J ≡ false) × (expects_tick_at o c ins J ≡ false)
+tick_never c o ins J none = (ap (list_any (λ w. true)) none, ap (λ l. list_any (λ w. true) l && not (list_any (is_at o) l)) none)
 
 -- ---- windows that were gathered
 

@@ -11,6 +11,7 @@ pub mod LeaveLemmas
 pub mod LeftLemmas
 pub mod LineLemmas
 pub mod ListLemmas
+pub mod NothingLemmas
 pub mod OneLemmas
 pub mod OutputLemmas
 pub mod OwedLemmas

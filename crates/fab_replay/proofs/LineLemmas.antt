@@ -2,7 +2,7 @@
 use Rattle.std.proofs.Common.{◌≡◌, ℕ, ◌+◌, Bool, true, false, List, [], ◌∷◌, ◌++◌, length, take, drop, refl, sym, ap, ◌∙◌, subst, arith, append_assoc, codes, decimal}
 use Rattle.std.specs.Prelude.{◌==◌, if◌then◌else◌}
 use Rattle.std.specs.Str.{bytes_eq}
-use Rattle.std.proofs.lemmas.List.{take-append-drop}
+use Rattle.std.proofs.lemmas.List.{append-nil, take-append-drop}
 use Rattle.std.proofs.lemmas.Slice.Eq.{bytes_eq-Decides}
 use Rattle.fab_policy.specs.Journal.{Journal, now}
 use Rattle.fab_policy.specs.Spelling.{IsClockOf, line_of, line_text}
@@ -13,6 +13,9 @@ use Rattle.fab_policy.specs.declared.line.Format.{Format}
 use Rattle.fab_policy.specs.declared.line.Format.TheVariants.{One, Two}
 use Rattle.fab_policy.specs.declared.line.Line.{Line}
 use Rattle.fab_policy.specs.declared.line.Line.TheVariants.{Tick}
+use Rattle.fab_states.specs.Written.{clock_on, piece_text}
+use Rattle.fab_states.proofs.WrittenLemmas.{piece-none, text_grows_from}
+use Rattle.fab_replay.specs.FrontFrom.{IsBehindFrom, text_from}
 use Rattle.fab_replay.specs.Lines.{IsBehind, IsLineAt, IsUnread, behind_line, first_line, format_of, text_in}
 use Rattle.fab_replay.specs.declared.fault.CheckFault.{CheckFault}
 use Rattle.fab_replay.specs.declared.lines.Place.{Place}
@@ -62,18 +65,31 @@ pub text_more : (f : Format) (J : Journal) (e : Event) → text_in f (e ∷ J) �
 text_more One J e = one_more J e ∙ ap (λ l. text1 J ++ l) (line_one (now (e ∷ J)) e)
 text_more Two J e = two_more J e ∙ ap (λ l. text J ++ l) (line_two (now (e ∷ J)) e (clock_of J e))
 
+-- the same behind a clock
+clock_on_of : (t : ℕ) (K : Journal) (e : Event) → IsClockOf (clock_on t (e ∷ K)) e
+clock_on_of t K (event.Tick m ended) = refl
+clock_on_of t K (event.Frame port index caught verdict) = tt
+
+text_on : (f : Format) (t : ℕ) (K : Journal) (e : Event) → text_from f t (e ∷ K) ≡ text_from f t K ++ line_text f (line_of f (clock_on t (e ∷ K)) e)
+text_on One t K e = one_more K e ∙ ap (λ l. text1 K ++ l) (line_one (clock_on t (e ∷ K)) e)
+text_on Two t K e =
+    let here = line (clock_on t (e ∷ K)) e in
+    ap (λ l. head_line ++ l) (text_grows_from t K (e ∷ []) ∙ ap (λ l. piece_text t K ++ l) (append-nil here))
+    ∙ sym (append_assoc head_line (piece_text t K) here)
+    ∙ ap (λ l. (head_line ++ piece_text t K) ++ l) (line_two (clock_on t (e ∷ K)) e (clock_on_of t K e))
+
 -- the place behind the line of an entry
-pub behind_more : (bytes : List ℕ) (p q : Place) (J : Journal) (e : Event) (l : Line) → IsBehind bytes p J → IsLineAt bytes p q l → l ≡ line_of p.format (now (e ∷ J)) e → IsBehind bytes q (e ∷ J)
-behind_more bytes p q J e l h at is = record {
+pub behind_more : (t : ℕ) (bytes : List ℕ) (p q : Place) (J : Journal) (e : Event) (l : Line) → IsBehindFrom t bytes p J → IsLineAt bytes p q l → l ≡ line_of p.format (clock_on t (e ∷ J)) e → IsBehindFrom t bytes q (e ∷ J)
+behind_more t bytes p q J e l h at is = record {
   format = at.format ∙ h.format;
   entries = at.entries ∙ ap (λ (n : ℕ). n + 1) h.entries ∙ (let s : length J + 1 ≡ length (e ∷ J) = omega arith in s);
   lines = h.lines
-      ∙ ap (λ x. text_in p.format J ++ x) (sym (line_split (drop p.at bytes)))
-      ∙ sym (append_assoc (text_in p.format J) (first_line (drop p.at bytes)) (behind_line (drop p.at bytes)))
-      ∙ ap (λ x. (text_in p.format J ++ x) ++ behind_line (drop p.at bytes)) (at.spells.spelled ∙ ap (line_text p.format) is)
-      ∙ ap (λ x. x ++ behind_line (drop p.at bytes)) (sym (text_more p.format J e))
-      ∙ ap (λ x. text_in p.format (e ∷ J) ++ x) (sym at.behind)
-      ∙ ap (λ (f : Format). text_in f (e ∷ J) ++ drop q.at bytes) (sym at.format);
+      ∙ ap (λ x. text_from p.format t J ++ x) (sym (line_split (drop p.at bytes)))
+      ∙ sym (append_assoc (text_from p.format t J) (first_line (drop p.at bytes)) (behind_line (drop p.at bytes)))
+      ∙ ap (λ x. (text_from p.format t J ++ x) ++ behind_line (drop p.at bytes)) (at.spells.spelled ∙ ap (line_text p.format) is)
+      ∙ ap (λ x. x ++ behind_line (drop p.at bytes)) (sym (text_on p.format t J e))
+      ∙ ap (λ x. text_from p.format t (e ∷ J) ++ x) (sym at.behind)
+      ∙ ap (λ (f : Format). text_from f t (e ∷ J) ++ drop q.at bytes) (sym at.format);
 }
 
 -- the line of a tick, and that of a frame which tells the clock where its format does
@@ -93,3 +109,12 @@ head_behind bytes e = record {
 pub plain_behind : (bytes : List ℕ) → bytes_eq head_line (take 10 bytes) ≡ false → IsBehind bytes (record { format = One; at = 0; entries = 0 }) []
 unfolding format_of text1
 plain_behind bytes e = record { format = ap (λ (b : Bool). if b then Two else One) (sym e); entries = refl; lines = refl }
+
+-- the same behind any clock
+text_none : (f : Format) (t : ℕ) → text_in f [] ≡ text_from f t []
+unfolding text
+text_none One t = refl
+text_none Two t = sym (append-nil head_line) ∙ ap (λ l. head_line ++ l) (sym (piece-none t))
+
+pub behind_first : (t : ℕ) (bytes : List ℕ) (p : Place) → IsBehind bytes p [] → IsBehindFrom t bytes p []
+behind_first t bytes p h = record { format = h.format; entries = h.entries; lines = h.lines ∙ ap (λ l. l ++ drop p.at bytes) (text_none p.format t) }

@@ -118,7 +118,7 @@ module _ (c : Settings) (ins : List (List Record)) where
   -- no frame is left behind a run
   nothing_left : (J : Journal) → Run c ins J → has_left c ins J ≡ false
   nothing_left J run =
-      (tick_never c ins J (left_none c 1 ins J (λ q port records at e.
+      (tick_never c (clock J) ins J (left_none c 1 ins J (λ q port records at e.
       let all = holds_at J 1 q port ins records run.frames at e in
       rest_none records (length (of_port port J)) (let size = ap length all ∙ length-numbered 0 records in omega (arith, size))))).0
 
@@ -250,7 +250,7 @@ module _ (c : Settings) (ins : List (List Record)) (f : Format) (I : Journal) (r
 
     no_tick : expects_tick c ins I ≡ false
     no_tick =
-        tick_unexpected c ins I
+        tick_unexpected c (clock I) ins I
         (left_some c (is_at (clock I)) 1 ins I own.place port own.records own.own own.later own.are (let e : port ≡ 1 + own.place = (let is = own.is in omega (arith, is)) in e) own.next
         (ap (λ (o : Option ℕ). is_at o (start_of c own.own)) time ∙ eq-eqb (start_of c own.own) (start_of c own.own) refl))
 
@@ -325,16 +325,16 @@ module _ (c : Settings) (ins : List (List Record)) (f : Format) (I : Journal) (r
         other.4 (line_is (event.Tick m ended) behind front text_is w.0 w.1 ∙ (λ i. Tick (moment i) (ends i)))
     | inr none ↦
         let t = front.timed.1 in
-        let both : true ≡ false = sym (tick_expected c ins I t.0 t.1 (clock_before c I t.0 m t.2)) ∙ none.0 in
+        let both : true ≡ false = sym (tick_expected c (clock I) ins I t.0 t.1 (clock_before c I t.0 m t.2)) ∙ none.0 in
         cc
   ]
   wrong_tick m ended behind front text_is why.Frame w =
       let t = front.timed.1 in
-      let both : true ≡ false = sym (tick_expected c ins I t.0 t.1 (clock_before c I t.0 m t.2)) ∙ w.4 in
+      let both : true ≡ false = sym (tick_expected c (clock I) ins I t.0 t.1 (clock_before c I t.0 m t.2)) ∙ w.4 in
       cc
   wrong_tick m ended behind front text_is (why.Verdict found made) w =
       let t = front.timed.1 in
-      let both : true ≡ false = sym (tick_expected c ins I t.0 t.1 (clock_before c I t.0 m t.2)) ∙ w.5 in
+      let both : true ≡ false = sym (tick_expected c (clock I) ins I t.0 t.1 (clock_before c I t.0 m t.2)) ∙ w.5 in
       cc
   wrong_tick m ended behind front text_is why.Rest w = line_some c ins f _ behind (text_is ∙ w.0)
 

@@ -17,10 +17,11 @@ use Rattle.fab_gather.specs.Ports.{AreInputs}
 use Rattle.fab_pages.proofs.PageLemmas.{length-items, page_of}
 use Rattle.fab_pages.specs.Pages.{items_in, piece_at}
 use Rattle.fab_policy.specs.Journal.{Journal}
-use Rattle.fab_policy.specs.Text.{egress}
+use Rattle.fab_states.proofs.WrittenLemmas.{sent-none}
 use Rattle.pcap_file.specs.Capture.{head_bytes}
 use Rattle.fab_replay.specs.AllOutputs.{AreRead, FinishesEach, IsFirst, page_at}
 use Rattle.fab_replay.specs.Counts.{check_end}
+use Rattle.fab_replay.specs.FrontFrom.{Origin, capture_from}
 use Rattle.fab_replay.specs.Outputs.{IsCompared, IsRead}
 use Rattle.fab_replay.specs.Owed.{AreMany, AreNew, IsOwed, PagesGrow, ReadsOn, ReadsOut, answer_by}
 use Rattle.fab_replay.specs.declared.fault.CheckFault.{CheckFault}
@@ -59,24 +60,23 @@ new_owed n pages all heads count size fresh = record {
 
 -- ---- what is owed
 
-nothing_sent : (c : Settings) (n p : ℕ) → egress c n p [] ≡ head_bytes
-unfolding egress
-nothing_sent c n p = refl
+nothing_sent : (c : Settings) (n p : ℕ) (from : Origin) → capture_from c n from p [] ≡ head_bytes
+nothing_sent c n p from = ap (λ (l : List ℕ). head_bytes ++ l) (sent-none c n p from.state) ∙ append-nil head_bytes
 
-module _ (c : Settings) (n : ℕ) (start d : Seen) (outs : List ℕ) where
-  pub owed_first : (o : Owed) → AreNew (length outs) o → ((q : ℕ) → q < length outs → d.left (slot_at outs q) ≡ start.left (slot_at outs q)) → IsOwed c n start d outs [] o
+module _ (c : Settings) (n : ℕ) (from : Origin) (start d : Seen) (outs : List ℕ) where
+  pub owed_first : (o : Owed) → AreNew (length outs) o → ((q : ℕ) → q < length outs → d.left (slot_at outs q) ≡ start.left (slot_at outs q)) → IsOwed c n from start d outs [] o
   owed_first o new same = record {
     before = λ q. [];
     read = λ q x at.
         let lt = slice_get_within o.all.items q x at in
         let found = start.left (slot_at outs q) in
         subst (λ l. IsRead x found l []) (sym (same q (let size = new.many.all in omega (arith, lt, size)))) (new.fresh q x at found);
-    next = λ q lt. nothing_sent c n (q + 1) ∙ sym (new.heads q lt);
+    next = λ q lt. nothing_sent c n (q + 1) from ∙ sym (new.heads q lt);
   }
 
-  module _ (J : Journal) (o : Owed) (many : AreMany (length outs) o) (i : IsOwed c n start d outs J o) where
+  module _ (J : Journal) (o : Owed) (many : AreMany (length outs) o) (i : IsOwed c n from start d outs J o) where
     -- nothing is fetched from the outputs
-    pub owed_stays : (e : Seen) → ((q : ℕ) → q < length outs → e.left (slot_at outs q) ≡ d.left (slot_at outs q)) → IsOwed c n start e outs J o
+    pub owed_stays : (e : Seen) → ((q : ℕ) → q < length outs → e.left (slot_at outs q) ≡ d.left (slot_at outs q)) → IsOwed c n from start e outs J o
     owed_stays e same = record {
       before = i.before;
       read = λ q x at.
@@ -86,8 +86,8 @@ module _ (c : Settings) (n : ℕ) (start d : Seen) (outs : List ℕ) where
     }
 
     -- the pages grow, and the outputs are read on
-    pub owed_on : (K : Journal) (pages : List (Vec ℕ Global)) (o1 o2 : Owed) (e : Seen) → IsTrue d.told → ReadsOn outs d e o1 o2 (Ok tt) → o1.pages.items ≡ pages → o1.all.items ≡ o.all.items → PagesGrow c n J K (items_in o.pages.items) (items_in pages) →
-        IsOwed c n start e outs K o2
+    pub owed_on : (K : Journal) (pages : List (Vec ℕ Global)) (o1 o2 : Owed) (e : Seen) → IsTrue d.told → ReadsOn outs d e o1 o2 (Ok tt) → o1.pages.items ≡ pages → o1.all.items ≡ o.all.items → PagesGrow c n from J K (items_in o.pages.items) (items_in pages) →
+        IsOwed c n from start e outs K o2
     owed_on K pages o1 o2 e told r is same g = record {
       before = λ q. i.before q ++ page_at o1.pages.items q;
       read = r.read told (λ q. start.left (slot_at outs q)) i.before (subst (λ l. AreRead d outs l (λ q. start.left (slot_at outs q)) i.before) (sym same) i.read);

@@ -15,6 +15,7 @@ use Rattle.fab_gather.specs.Reads.{HasRead, HaveRead, batches_of, first_index}
 use Rattle.fab_gather.specs.declared.shelf.Input.{Input}
 use Rattle.fab_gather.specs.declared.shelf.Shelf.{Shelf}
 use Rattle.pcap_file.specs.declared.Record.{Record}
+use Rattle.fab_replay.specs.FrontFrom.{Origin}
 use Rattle.fab_replay.specs.Steps.{AreCounted, IsGathered}
 use Rattle.fab_replay.specs.Windows.{HaveLines}
 use Rattle.fab_replay.proofs.ListLemmas.{at_inside, inside_at, rest_behind}
@@ -136,9 +137,9 @@ module _ (c : Settings) (w : ℕ) (opened : List Opened) (taken : List (List Rec
         length-more (t ∷ ts) (b ∷ bs) = ap suc (length-more ts bs)
 
     -- what is on the shelves stands behind the lines so far
-    pub gathered : (stop : Option Stop) (bytes : List ℕ) → IsAhead (w + 1) stop → length shelves ≡ length opened → Splits c (w + 1) opened (with_more taken (batches_of shelves)) → AllIn c w (batches_of shelves) → HasSome (batches_of shelves) → HaveLines J taken →
-        IsGathered (record { settings = c; records = all_records opened; stop = stop; bytes = bytes }) w J shelves
-    gathered stop bytes ahead ports splits own some lines = record {
+    pub gathered : (from : Origin) (stop : Option Stop) (bytes : List ℕ) → IsAhead (w + 1) stop → length shelves ≡ length opened → Splits c (w + 1) opened (with_more taken (batches_of shelves)) → AllIn c w (batches_of shelves) → HasSome (batches_of shelves) → HaveLines J taken →
+        IsGathered (record { settings = c; from = from; records = all_records opened; stop = stop; bytes = bytes }) w J shelves
+    gathered from stop bytes ahead ports splits own some lines = record {
       width = ports ∙ sym (length-records opened);
       ahead = ahead;
       ports = λ q s at.

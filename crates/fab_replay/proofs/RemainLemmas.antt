@@ -1,14 +1,12 @@
--- What a fabric stands for while the lines of a journal are checked, and where the check ends.
+-- What a fabric stands for while lines are checked, and where the check ends.
 use Rattle.std.proofs.Common.{◌≡◌, ℕ, inl, inr, Bool, true, false, List, [], ◌∷◌, ◌++◌, length, drop, Option, Some, IsTrue, IsSome, Result, Ok, Err, refl, sym, ap, ◌∙◌, subst, arith}
 use Rattle.std.specs.Prelude.{IfErr, unwrap_or}
 use Rattle.fab_base.specs.declared.values.Caught.{Caught}
 use Rattle.fab_config.specs.Settings.{Settings}
-use Rattle.fab_policy.proofs.Standing.{legal_after, stands_after}
-use Rattle.fab_policy.specs.Journal.{Journal, clock, now}
-use Rattle.fab_policy.specs.Legal.{Legal}
+use Rattle.fab_policy.specs.Journal.{Journal}
 use Rattle.fab_policy.specs.Ranged.{IsRangedEvent}
 use Rattle.fab_policy.specs.Spelling.{Spells, line_of}
-use Rattle.fab_policy.specs.Standing.{Contents, Stands}
+use Rattle.fab_policy.specs.Standing.{Contents}
 use Rattle.fab_policy.specs.State.{Tables}
 use Rattle.fab_policy.specs.declared.event.Event.{Event}
 use Rattle.fab_policy.specs.declared.event.Event.TheVariants as event
@@ -18,10 +16,13 @@ use Rattle.fab_policy.specs.declared.line.Line.TheVariants.{Tick, Frame}
 use Rattle.fab_policy.specs.declared.verdict.Verdict.{Verdict}
 use Rattle.fab_gather.specs.declared.shelf.Shelf.{Shelf}
 use Rattle.pcap_file.specs.declared.Record.{Record}
-use Rattle.fab_replay.specs.Front.{expects_tick}
-use Rattle.fab_replay.specs.Lines.{IsLineAt, IsUnread, behind_by, end_fault, first_line, format_of, number_behind, text_in}
-use Rattle.fab_replay.specs.Remains.{HasTick, IsBegun, IsTaken, IsTickIf, Remains}
-use Rattle.fab_replay.specs.Steps.{HasTurned, IsAlong, IsOnShelf, IsReached, IsRefused, IsTickNow, IsWindow, Left, Scene, refusal}
+use Rattle.fab_states.specs.States.{LegalFrom}
+use Rattle.fab_states.specs.Written.{clock_on}
+use Rattle.fab_states.proofs.WrittenLemmas.{clock-on}
+use Rattle.fab_replay.specs.FrontFrom.{IsBegunFrom, Origin, RemainsFrom, StandsFrom, expects_tick_from, now_from, text_from}
+use Rattle.fab_replay.specs.Lines.{IsLineAt, IsUnread, behind_by, end_fault, first_line, format_of, number_behind}
+use Rattle.fab_replay.specs.Remains.{HasTick, IsTaken, IsTickIf}
+use Rattle.fab_replay.specs.Steps.{Begin, HasTurned, IsAlong, IsIdle, IsOnShelf, IsReached, IsRefused, IsTickNow, IsWindow, Left, Scene, refusal}
 use Rattle.fab_replay.specs.Verdicts.{IsAfter, IsMisjudged}
 use Rattle.fab_replay.specs.declared.fault.CheckFault.{CheckFault}
 use Rattle.fab_replay.specs.declared.fault.CheckFault.TheVariants as fault
@@ -31,8 +32,9 @@ use Rattle.fab_replay.specs.declared.verdicts.Misjudged.{Misjudged}
 use Rattle.fab_replay.specs.declared.verdicts.Misjudged.TheVariants.{Wrong, Memory}
 use Rattle.fab_replay.proofs.FrontLemmas.{begun_frame, same_clock}
 use Rattle.fab_replay.proofs.LineLemmas.{behind_more, unread_as}
+use Rattle.fab_replay.proofs.SentLemmas.{legal_took, stands_took}
 use Rattle.fab_replay.proofs.StepLemmas.{frame_line}
-use Rattle.fab_replay.proofs.WindowLemmas.{next_from}
+use Rattle.fab_replay.proofs.WindowLemmas.{next_from, shelf_as}
 
 -- A fabric stands for lines that are right, and lines are right for which it stands where the captures are known, of as many ports.
 pub along_as : {x : Scene} {J : Journal} {F : Contents} {p : Place} → IsReached x J F p → IsAlong x true J F p
@@ -58,12 +60,12 @@ module _ (x : Scene) (told : Bool) (J : Journal) (F : Contents) (p : Place) (h :
   number_is n e = e ∙ ap (number_behind p.format) h.behind.entries ∙ ap (λ (f : Format). number_behind f (length J)) h.behind.format
 
   -- the fabric has taken some entries behind those of the lines
-  abbrev pub left_with : (G : Contents) (more : List Event) (r : Result ℕ CheckFault) → IsTaken (format_of x.bytes) J rest more r → Legal x.settings (more ++ J) → Stands G (more ++ J) →
-      (IsTrue told → IsBegun x.settings x.records (more ++ J)) → (IsTrue told → HasTick (expects_tick x.settings x.records J) more r) → Remains x.settings x.records told x.bytes G r
+  abbrev pub left_with : (G : Contents) (more : List Event) (r : Result ℕ CheckFault) → IsTaken (format_of x.bytes) J rest more r → LegalFrom x.settings x.from.state (more ++ J) → StandsFrom x.from G (more ++ J) →
+      (IsTrue told → IsBegunFrom x.settings x.from x.records (more ++ J)) → (IsTrue told → HasTick (expects_tick_from x.settings x.from x.records J) more r) → RemainsFrom x.settings x.from x.records told x.bytes G r
   left_with G more r taken legal stands begun tick = record {
     entry_list = J;
     rest = rest;
-    lines = h.behind.lines ∙ ap (λ (f : Format). text_in f J ++ rest) h.behind.format;
+    lines = h.behind.lines ∙ ap (λ (f : Format). text_from f (now_from x.from) J ++ rest) h.behind.format;
     ranged = h.ranged;
     more = more;
     taken = taken;
@@ -74,7 +76,7 @@ module _ (x : Scene) (told : Bool) (J : Journal) (F : Contents) (p : Place) (h :
   }
 
   -- it has taken none
-  abbrev pub stays : (r : Result ℕ CheckFault) → IsTaken (format_of x.bytes) J rest [] r → (IsTrue told → HasTick (expects_tick x.settings x.records J) [] r) → Remains x.settings x.records told x.bytes F r
+  abbrev pub stays : (r : Result ℕ CheckFault) → IsTaken (format_of x.bytes) J rest [] r → (IsTrue told → HasTick (expects_tick_from x.settings x.from x.records J) [] r) → RemainsFrom x.settings x.from x.records told x.bytes F r
   stays r taken tick = left_with F [] r taken h.legal h.stands h.begun tick
 
   pub stays_refused : Left x told F fault.Memory
@@ -87,38 +89,38 @@ module _ (x : Scene) (told : Bool) (J : Journal) (F : Contents) (p : Place) (h :
   stays_unread _ u = absurd u
 
   -- a tick where none is expected, and a frame that isn't the next
-  pub stays_tick : (n : ℕ) → n ≡ number_behind p.format p.entries → (IsTrue told → expects_tick x.settings x.records J ≡ false) → Left x told F (fault.Line n why.Tick)
+  pub stays_tick : (n : ℕ) → n ≡ number_behind p.format p.entries → (IsTrue told → expects_tick_from x.settings x.from x.records J ≡ false) → Left x told F (fault.Line n why.Tick)
   stays_tick n number none = stays (Err (fault.Line n why.Tick)) (number_is n number, inl refl) (λ t. subst (λ (b : Bool). IsTickIf b []) (sym (none t)) refl)
 
   pub stays_frame : (n : ℕ) → n ≡ number_behind p.format p.entries → Left x told F (fault.Line n why.Frame)
   stays_frame n number = stays (Err (fault.Line n why.Frame)) (number_is n number, refl) (λ t. tt)
 
-  pub stays_behind : (l : Line) → (IsTrue told → expects_tick x.settings x.records J ≡ false) → Left x told F (behind_by l p)
+  pub stays_behind : (l : Line) → (IsTrue told → expects_tick_from x.settings x.from x.records J ≡ false) → Left x told F (behind_by l p)
   stays_behind (Tick m ended) none = stays_tick (number_behind p.format p.entries) refl none
   stays_behind (Frame port index verdict at) none = stays_frame (number_behind p.format p.entries) refl
 
   -- and what is read behind the last frame
-  pub stays_at_end : {b : List ℕ} (q : Place) (r : Result Line CheckFault) → x.bytes ≡ b → (IsTrue told → expects_tick x.settings x.records J ≡ false) → IfErr r (λ e. IsUnread b p e × (q ≡ p)) → Left x told F (end_fault r p)
+  pub stays_at_end : {b : List ℕ} (q : Place) (r : Result Line CheckFault) → x.bytes ≡ b → (IsTrue told → expects_tick_from x.settings x.from x.records J ≡ false) → IfErr r (λ e. IsUnread b p e × (q ≡ p)) → Left x told F (end_fault r p)
   stays_at_end q (Ok l) same none unread = stays_behind l none
   stays_at_end q (Err e) same none unread = stays_unread e (unread_as p e same unread.0)
 
-  pub legal_old : Legal F.settings J
-  legal_old = subst (λ (s : Settings). Legal s J) (sym h.settings) h.legal
+  pub legal_old : LegalFrom F.settings x.from.state J
+  legal_old = subst (λ (s : Settings). LegalFrom s x.from.state J) (sym h.settings) h.legal
 
   -- ---- a tick
 
   module _ (m : ℕ) (ended : List ℕ) (next : IsTrue told → IsTickNow x J m) (G : Contents)
-      (goes : Legal F.settings J → Stands F J → Legal F.settings (event.Tick m ended ∷ J) × Stands G (event.Tick m ended ∷ J)) where
+      (goes : LegalFrom F.settings x.from.state J → StandsFrom x.from F J → LegalFrom F.settings x.from.state (event.Tick m ended ∷ J) × StandsFrom x.from G (event.Tick m ended ∷ J)) where
     abbrev more : List Event
     more = event.Tick m ended ∷ []
 
-    legal_tick : Legal x.settings (event.Tick m ended ∷ J)
-    legal_tick = subst (λ (s : Settings). Legal s (event.Tick m ended ∷ J)) h.settings (goes legal_old h.stands).0
+    legal_tick : LegalFrom x.settings x.from.state (event.Tick m ended ∷ J)
+    legal_tick = subst (λ (s : Settings). LegalFrom s x.from.state (event.Tick m ended ∷ J)) h.settings (goes legal_old h.stands).0
 
-    stands_tick : Stands G (event.Tick m ended ∷ J)
+    stands_tick : StandsFrom x.from G (event.Tick m ended ∷ J)
     stands_tick = (goes legal_old h.stands).1
 
-    begun_tick : IsTrue told → IsBegun x.settings x.records (event.Tick m ended ∷ J)
+    begun_tick : IsTrue told → IsBegunFrom x.settings x.from x.records (event.Tick m ended ∷ J)
     begun_tick t = let b = h.begun t in let n = next t in record { ports = b.ports; frames = b.frames; timed = (b.timed, (n.window, n.least, n.next)) }
 
     -- the line is another one
@@ -130,7 +132,7 @@ module _ (x : Scene) (told : Bool) (J : Journal) (F : Contents) (p : Place) (h :
 
     pub along_tick : (q : Place) (l : Line) → IsLineAt x.bytes p q l → l ≡ Tick m ended → G.settings ≡ F.settings → IsAlong x told (event.Tick m ended ∷ J) G q
     along_tick q l at is settings = record {
-      behind = behind_more x.bytes p q J (event.Tick m ended) l h.behind at is;
+      behind = behind_more (now_from x.from) x.bytes p q J (event.Tick m ended) l h.behind at is;
       ranged = (h.ranged, (subst (Spells p.format (first_line rest)) is at.spells).ranged);
       legal = legal_tick;
       stands = stands_tick;
@@ -140,13 +142,13 @@ module _ (x : Scene) (told : Bool) (J : Journal) (F : Contents) (p : Place) (h :
 
   -- ---- a frame
 
-  module _ (w : ℕ) (clock_ : F.state.tables.clock ≡ Some w) (shelves : List Shelf) (done : List ℕ) (win : IsTrue told → IsWindow x w J shelves done)
-      (q : Place) (port index : ℕ) (verdict : Verdict) (o : Option ℕ) (at : IsLineAt x.bytes p q (Frame port index verdict o)) (r : Record) (on : IsOnShelf shelves done w port index o r) where
-    begun_with : (v : Verdict) → IsTrue told → IsBegun x.settings x.records (event.Frame port index r.caught v ∷ J)
-    begun_with v t = begun_frame x.settings x.records J port index o r v (h.begun t) (next_from x w J shelves done (win t) port index o r on)
+  module _ (w : ℕ) (clock_ : F.state.tables.clock ≡ Some w) (firsts : List ℕ) (shelves : List Shelf) (done : List ℕ) (win : IsTrue told → Begin x firsts × IsWindow x w J shelves done)
+      (q : Place) (port index : ℕ) (verdict : Verdict) (o : Option ℕ) (at : IsLineAt x.bytes p q (Frame port index verdict o)) (r : Record) (on : IsOnShelf firsts shelves done w port index o r) where
+    begun_with : (v : Verdict) → IsTrue told → IsBegunFrom x.settings x.from x.records (event.Frame port index r.caught v ∷ J)
+    begun_with v t = begun_frame x.settings x.from x.records J port index o r v (h.begun t) (next_from x w J shelves done (win t).1 port index o r (shelf_as (λ q. sym ((win t).0 q)) on))
 
     -- the frame's verdict is wrong
-    pub left_frame : (T : Tables) (G : Contents) (f : CheckFault) → IsRefused F.settings T p port r.caught verdict f → HasTurned F.settings G J port index r.caught f → Left x told G f
+    pub left_frame : (T : Tables) (G : Contents) (f : CheckFault) → IsRefused F.settings T p port r.caught verdict f → HasTurned F.settings x.from G J port index r.caught f → Left x told G f
     left_frame T G (fault.Line n (why.Verdict found made)) u t =
         left_with G (event.Frame port index r.caught made ∷ []) (Err (fault.Line n (why.Verdict found made))) (
           number_is n u.0,
@@ -159,35 +161,36 @@ module _ (x : Scene) (told : Bool) (J : Journal) (F : Contents) (p : Place) (h :
             is = refl;
           },
         )
-        (subst (λ (s : Settings). Legal s (event.Frame port index r.caught made ∷ J)) h.settings t.0) t.1 (begun_with made) (λ t. tt)
+        (subst (λ (s : Settings). LegalFrom s x.from.state (event.Frame port index r.caught made ∷ J)) h.settings t.0) t.1 (begun_with made) (λ t. tt)
     left_frame T G fault.Memory u t = elim t [
       | inl same ↦ left_with G [] (Err fault.Memory) (omega arith) h.legal same h.begun (λ t. tt)
       | inr some ↦
-          left_with G (event.Frame port index r.caught some.0 ∷ []) (Err fault.Memory) (omega arith) (subst (λ (s : Settings). Legal s (event.Frame port index r.caught some.0 ∷ J)) h.settings some.1) some.2 (begun_with some.0) (λ t. tt)
+          left_with G (event.Frame port index r.caught some.0 ∷ []) (Err fault.Memory) (omega arith) (subst (λ (s : Settings). LegalFrom s x.from.state (event.Frame port index r.caught some.0 ∷ J)) h.settings some.1) some.2 (begun_with some.0) (λ t. tt)
     ]
     left_frame T G _ u t = absurd u
 
-    pub along_frame : (G : Contents) → (Legal F.settings J → Stands F J → Legal F.settings (event.Frame port index r.caught verdict ∷ J) × Stands G (event.Frame port index r.caught verdict ∷ J)) → IsRangedEvent (event.Frame port index r.caught verdict) → G.settings ≡ F.settings →
+    pub along_frame : (G : Contents) →
+        (LegalFrom F.settings x.from.state J → StandsFrom x.from F J → LegalFrom F.settings x.from.state (event.Frame port index r.caught verdict ∷ J) × StandsFrom x.from G (event.Frame port index r.caught verdict ∷ J)) → IsRangedEvent (event.Frame port index r.caught verdict) → G.settings ≡ F.settings →
         IsAlong x told (event.Frame port index r.caught verdict ∷ J) G q
     along_frame G goes ranged settings =
         let both = goes legal_old h.stands in
         let e = event.Frame port index r.caught verdict in
-        let t : w ≡ now (e ∷ J) = sym (ap (λ (o : Option ℕ). unwrap_or o 0) (sym (same_clock F J h.stands) ∙ clock_)) in
+        let t : w ≡ clock_on (now_from x.from) (e ∷ J) = sym (ap (λ (o : Option ℕ). unwrap_or o 0) (sym (same_clock x.settings x.from F J h.stands h.settings) ∙ clock_)) ∙ clock-on x.settings x.from.state J in
         record {
-          behind = behind_more x.bytes p q J e (Frame port index verdict o) h.behind at (frame_line port index r.caught verdict p.format w o at.spells.ranged.4 on.clock_ ∙ ap (λ (n : ℕ). line_of p.format n e) t);
+          behind = behind_more (now_from x.from) x.bytes p q J e (Frame port index verdict o) h.behind at (frame_line port index r.caught verdict p.format w o at.spells.ranged.4 on.clock_ ∙ ap (λ (n : ℕ). line_of p.format n e) t);
           ranged = (h.ranged, ranged);
-          legal = subst (λ (s : Settings). Legal s (e ∷ J)) h.settings both.0;
+          legal = subst (λ (s : Settings). LegalFrom s x.from.state (e ∷ J)) h.settings both.0;
           stands = both.1;
           settings = settings ∙ h.settings;
           begun = begun_with verdict;
         }
 
 -- what a fabric stands for that was to take a frame with the verdict that was found
-pub turned_as : (F G : Contents) (J : Journal) (p : Place) (port index : ℕ) (caught heard : Caught) (found : Verdict) (e : Misjudged) (f : CheckFault) → heard ≡ caught → IsSome F.state.tables.clock →
-    IsMisjudged F.settings F.state.tables port heard found e → IsAfter F port index heard e G → f ≡ refusal p found e → Legal F.settings J → Stands F J → HasTurned F.settings G J port index caught f
-turned_as F G J p port index caught heard found e f same clock wrong left told legal stands =
-    subst (HasTurned F.settings G J port index caught) (sym told) (subst (λ (k : Caught). HasTurned F.settings G J port index k (refusal p found e)) same (by_why e wrong left))
+pub turned_as : (o : Origin) (F G : Contents) (J : Journal) (p : Place) (port index : ℕ) (caught heard : Caught) (found : Verdict) (e : Misjudged) (f : CheckFault) → heard ≡ caught → IsSome F.state.tables.clock →
+    IsIdle F → IsMisjudged F.settings F.state.tables port heard found e → IsAfter F port index heard e G → f ≡ refusal p found e → LegalFrom F.settings o.state J → StandsFrom o F J → HasTurned F.settings o G J port index caught f
+turned_as o F G J p port index caught heard found e f same clock idle wrong left told legal stands =
+    subst (HasTurned F.settings o G J port index caught) (sym told) (subst (λ (k : Caught). HasTurned F.settings o G J port index k (refusal p found e)) same (by_why e wrong left))
   where
-    by_why : (e : Misjudged) → IsMisjudged F.settings F.state.tables port heard found e → IsAfter F port index heard e G → HasTurned F.settings G J port index heard (refusal p found e)
-    by_why (Wrong made) w l = (legal_after F (event.Frame port index heard made) J legal stands (clock, w.1), stands_after F G (event.Frame port index heard made) J stands l)
-    by_why Memory w l = inl (subst (λ (H : Contents). Stands H J) (sym l) stands)
+    by_why : (e : Misjudged) → IsMisjudged F.settings F.state.tables port heard found e → IsAfter F port index heard e G → HasTurned F.settings o G J port index heard (refusal p found e)
+    by_why (Wrong made) w l = (legal_took o F (event.Frame port index heard made) J legal stands (clock, w.1), stands_took o F G (event.Frame port index heard made) J idle stands l)
+    by_why Memory w l = inl (subst (λ (H : Contents). StandsFrom o H J) (sym l) stands)

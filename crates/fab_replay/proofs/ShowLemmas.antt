@@ -11,7 +11,7 @@ use Rattle.fab_base.proofs.KeyedLemmas.{AscendFrom-weaker}
 use Rattle.fab_policy.specs.Journal.{Journal}
 use Rattle.fab_policy.specs.Outputs.{State}
 use Rattle.fab_policy.specs.Standing.{Contents, Stands}
-use Rattle.fab_policy.specs.State.{LivePort, tables_of}
+use Rattle.fab_policy.specs.State.{LivePort, Tables, tables_of}
 use Rattle.fab_policy.specs.Written.{TablesAscend}
 use Rattle.fab_roster.specs.Roll.{login_of}
 use Rattle.login_table.specs.declared.login.Login.{Login}
@@ -165,14 +165,20 @@ pub rows_on : (from n : ℕ) (ports : List LivePort) (text text' start : List �
 rows_on from n ports text text' start row order next so_far grown at =
     ap (λ l. l ++ ports_lines (on_from address_of (n + 1) ports)) grown ∙ ap (λ (k : ℕ). (text ++ row_lines row) ++ ports_lines (on_from address_of (k + 1) ports)) at ∙ rows_more from ports text start row order next so_far
 
--- ---- a journal
+-- ---- all lines
 
--- the lines of a fabric's tables are those of each journal that the fabric stands for
+-- the lines of a fabric's tables
+pub shown_in : {E G : Type 0} (T : Tables) (entries : ℕ) (made : Result (Vec ℕ Global) E) (r : Result (Unit {0}) G) (old new : List ℕ) → OnOk r (IfOk made (λ bytes. new ≡ old ++ bytes.items)) → OnErr made (IsErr r) →
+    (AreInOrder T.ports → IfOk made (λ v. v.items ≡ shown_by entries T)) → AreInOrder T.ports → OnOk r (new ≡ old ++ shown_by entries T)
+shown_in T entries (Ok v) (Ok done) old new ok refused lines order = ok ∙ ap (λ l. old ++ l) (lines order)
+shown_in T entries (Err e) (Ok done) old new ok refused lines order = absurd (cc)
+shown_in T entries made (Err e) old new ok refused lines order = tt
+
+-- they are those of each journal that the fabric stands for
 pub shown_on : {E G : Type 0} (F : Contents) (entries : ℕ) (made : Result (Vec ℕ Global) E) (r : Result (Unit {0}) G) (old new : List ℕ) → TablesAscend → OnOk r (IfOk made (λ bytes. new ≡ old ++ bytes.items)) → OnErr made (IsErr r) →
     (AreInOrder F.state.tables.ports → IfOk made (λ v. v.items ≡ shown_by entries F.state.tables)) → OnOk r ((J : Journal) → Stands F J → new ≡ old ++ shown_by entries (tables_of F.settings J))
-shown_on F entries (Ok v) (Ok done) old new ascend ok refused lines = λ J stands.
+shown_on {E} {G} F entries made (Ok done) old new ascend ok refused lines = λ J stands.
     let c = F.settings in
     let order = AscendFrom-weaker address_of 0 (c.domain * 65536 + 256) (tables_of c J).ports (omega arith) (ascend c J).0 in
-    ok ∙ ap (λ l. old ++ l) (lines (subst (λ (S : State). AreInOrder S.tables.ports) (sym stands.state) order)) ∙ ap (λ (S : State). old ++ shown_by entries S.tables) stands.state
-shown_on F entries (Err e) (Ok done) old new ascend ok refused lines = absurd (cc)
-shown_on F entries made (Err e) old new ascend ok refused lines = tt
+    shown_in {E = E} {G = G} F.state.tables entries made (Ok done) old new ok refused lines (subst (λ (S : State). AreInOrder S.tables.ports) (sym stands.state) order) ∙ ap (λ (S : State). old ++ shown_by entries S.tables) stands.state
+shown_on {E} {G} F entries made (Err e) old new ascend ok refused lines = tt

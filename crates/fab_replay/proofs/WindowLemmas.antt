@@ -1,13 +1,13 @@
 -- The frames of a window on the shelves, and the next frames of the ports.
-use Rattle.std.proofs.Common.{◌≡◌, ℕ, zero, suc, ◌+◌, ◌<◌, ◌≤◌, Bool, true, false, eqb, ltb, MatchBool, get_or, ◌^◌, List, [], ◌∷◌, ◌++◌, length, length-append, drop, set, slice_get, Option, Some, None, IfSome, refl, sym, ap, ◌∙◌, subst, arith}
-use Rattle.std.specs.Prelude.{replicate}
+use Rattle.std.proofs.Common.{◌≡◌, ℕ, zero, suc, ◌+◌, ◌-◌, ◌<◌, ◌≤◌, Bool, true, false, eqb, ltb, MatchBool, get_or, ◌^◌, List, [], ◌∷◌, ◌++◌, length, length-append, drop, set, slice_get, Option, Some, None, IfSome, refl, sym, ap, ◌∙◌, subst, arith}
+use Rattle.std.specs.Prelude.{replicate, unwrap_or}
 use Rattle.std.specs.List.{list_any}
 use Rattle.std.proofs.lemmas.Bool.{eqb-true, eqb-false, eq-eqb, ltb-true, ltb-false}
 use Rattle.std.proofs.lemmas.Option.{get_or_from_slice_get}
 use Rattle.fab_base.specs.declared.values.Caught.{Caught}
 use Rattle.fab_config.specs.Settings.{Settings}
 use Rattle.fab_policy.specs.Growing.{AreFrom}
-use Rattle.fab_policy.specs.Journal.{Journal, clock}
+use Rattle.fab_policy.specs.Journal.{Journal}
 use Rattle.fab_policy.specs.Legal.{IsLeastOf, left_of, of_port, window_start, windows_left}
 use Rattle.fab_policy.specs.declared.event.Event.TheVariants.{Frame}
 use Rattle.fab_policy.specs.declared.verdict.Verdict.{Verdict}
@@ -15,8 +15,11 @@ use Rattle.fab_gather.proofs.SlotLemmas.{get_set_same, get_set_other}
 use Rattle.fab_gather.specs.Port.{AreIn}
 use Rattle.fab_gather.specs.declared.shelf.Shelf.{Shelf}
 use Rattle.pcap_file.specs.declared.Record.{Record}
-use Rattle.fab_replay.specs.Front.{IsNextFrame, expects_tick, is_at}
-use Rattle.fab_replay.specs.Steps.{AllDone, AreCounted, At, HasLeft, HoldSame, IsDone, HasLeftAt, IsGathered, IsOnShelf, IsPortIn, IsWindow, Scene}
+use Rattle.fab_states.specs.Runs.{first_of}
+use Rattle.fab_replay.specs.Front.{is_at}
+use Rattle.fab_replay.specs.FrontFrom.{IsNextFrameFrom, clock_from, expects_tick_from}
+use Rattle.fab_gather.specs.Reads.{first_index}
+use Rattle.fab_replay.specs.Steps.{AllDone, AreCounted, AreFirsts, At, HasLeft, HoldSame, IsDone, HasLeftAt, IsGathered, IsOnShelf, IsPortIn, IsWindow, Scene}
 use Rattle.fab_replay.proofs.FrontLemmas.{of_port_own, of_port_other}
 use Rattle.fab_replay.proofs.LeftLemmas.{left_all, left_some, start_of, tick_unexpected}
 use Rattle.fab_replay.proofs.ListLemmas.{at_inside, inside_at, next_of, rest_at}
@@ -47,7 +50,7 @@ port_same x w J K q s k same i = record {
 module _ (x : Scene) (w : ℕ) (J : Journal) (shelves : List Shelf) (done : List ℕ) (win : IsWindow x w J shelves done) where
   -- ---- what a line may name
 
-  pub next_from : (port index : ℕ) (told : Option ℕ) (r : Record) → IsOnShelf shelves done w port index told r → IsNextFrame x.settings x.records J port index told r
+  pub next_from : (port index : ℕ) (told : Option ℕ) (r : Record) → IsOnShelf x.from.firsts shelves done w port index told r → IsNextFrameFrom x.settings x.from x.records J port index told r
   next_from port index told r o =
       let i = win.ports o.place o.shelf o.done_ o.at in
       record {
@@ -57,17 +60,17 @@ module _ (x : Scene) (w : ℕ) (J : Journal) (shelves : List Shelf) (done : List
         later = drop (suc o.done_) o.shelf.batch.items ++ i.later;
         are = i.are;
         next = ap (λ (p : ℕ). left_of p i.records J) o.is ∙ i.left ∙ ap (λ l. l ++ i.later) (rest_at o.shelf.batch.items o.done_ r o.record_);
-        number = o.number ∙ sym i.count ∙ ap (λ (p : ℕ). length (of_port p J)) (sym o.is);
+        number = o.number ∙ ap (λ (n : ℕ). first_of x.from.firsts port + n) (sym i.count ∙ ap (λ (p : ℕ). length (of_port p J)) (sym o.is));
         time = win.clock_ ∙ ap (λ (k : ℕ). Some k) (sym (in_at x.settings w o.shelf.batch.items o.done_ r i.own o.record_));
         clock_ = told_at told o.clock_;
       }
     where
-      told_at : (o : Option ℕ) → IfSome o (λ t. t ≡ w) → IfSome o (λ t. clock J ≡ Some t)
+      told_at : (o : Option ℕ) → IfSome o (λ t. t ≡ w) → IfSome o (λ t. clock_from x.settings x.from J ≡ Some t)
       told_at None h = tt
       told_at (Some t) h = win.clock_ ∙ ap (λ (k : ℕ). Some k) (sym h)
 
   module _ (width : length done ≡ length shelves) where
-    pub from_next : (port index : ℕ) (told : Option ℕ) (r : Record) → IsNextFrame x.settings x.records J port index told r → IsOnShelf shelves done w port index told r
+    pub from_next : (port index : ℕ) (told : Option ℕ) (r : Record) → IsNextFrameFrom x.settings x.from x.records J port index told r → IsOnShelf x.from.firsts shelves done w port index told r
     from_next port index told r n =
         let lt = at_inside x.records n.place n.records n.are in
         let s = inside_at shelves n.place (omega (arith, lt, win.width)) in
@@ -84,14 +87,14 @@ module _ (x : Scene) (w : ℕ) (J : Journal) (shelves : List Shelf) (done : List
           done_ = k.0;
           at = at;
           record_ = by_rest k.0 s.0.batch.items (drop k.0 s.0.batch.items) refl i.later i.from left;
-          number = n.number ∙ ap (λ (p : ℕ). length (of_port p J)) n.is ∙ i.count;
+          number = n.number ∙ ap (λ (k : ℕ). first_of x.from.firsts port + k) (ap (λ (p : ℕ). length (of_port p J)) n.is ∙ i.count);
           clock_ = told_at told n.clock_;
         }
       where
-        same_at : (t : ℕ) → clock J ≡ Some t → t ≡ w
+        same_at : (t : ℕ) → clock_from x.settings x.from J ≡ Some t → t ≡ w
         same_at t e = let both : Some t ≡ Some w = sym e ∙ win.clock_ in cc
 
-        told_at : (o : Option ℕ) → IfSome o (λ t. clock J ≡ Some t) → IfSome o (λ t. t ≡ w)
+        told_at : (o : Option ℕ) → IfSome o (λ t. clock_from x.settings x.from J ≡ Some t) → IfSome o (λ t. t ≡ w)
         told_at None h = tt
         told_at (Some t) h = same_at t h
 
@@ -106,7 +109,7 @@ module _ (x : Scene) (w : ℕ) (J : Journal) (shelves : List Shelf) (done : List
 
   -- ---- one frame more
 
-  module _ (port index : ℕ) (told : Option ℕ) (r : Record) (v : Verdict) (o : IsOnShelf shelves done w port index told r) where
+  module _ (port index : ℕ) (told : Option ℕ) (r : Record) (v : Verdict) (o : IsOnShelf x.from.firsts shelves done w port index told r) where
     abbrev K : Journal
     K = Frame port index r.caught v ∷ J
 
@@ -155,17 +158,17 @@ module _ (x : Scene) (w : ℕ) (J : Journal) (shelves : List Shelf) (done : List
 
   -- ---- whether frames are left
 
-  pub left_here : HasLeft shelves done → list_any (is_at (clock J)) (windows_left x.settings 1 x.records J) ≡ true
+  pub left_here : HasLeft shelves done → list_any (is_at (clock_from x.settings x.from J)) (windows_left x.settings 1 x.records J) ≡ true
   left_here h =
       let i = win.ports h.0 h.1.shelf h.1.done_ h.1.at in
       let r = inside_at h.1.shelf.batch.items h.1.done_ h.1.more in
       let left : left_of (h.0 + 1) i.records J ≡ r.0 ∷ (drop (suc h.1.done_) h.1.shelf.batch.items ++ i.later) = i.left ∙ ap (λ l. l ++ i.later) (rest_at h.1.shelf.batch.items h.1.done_ r.0 r.1) in
       let here : window_start x.settings r.0.moment ≡ w = in_at x.settings w h.1.shelf.batch.items h.1.done_ r.0 i.own r.1 in
-      left_some x.settings (is_at (clock J)) 1 x.records J h.0 (h.0 + 1) i.records r.0 (drop (suc h.1.done_) h.1.shelf.batch.items ++ i.later) i.are (let e : h.0 + 1 ≡ 1 + h.0 = omega arith in e) left
+      left_some x.settings (is_at (clock_from x.settings x.from J)) 1 x.records J h.0 (h.0 + 1) i.records r.0 (drop (suc h.1.done_) h.1.shelf.batch.items ++ i.later) i.are (let e : h.0 + 1 ≡ 1 + h.0 = omega arith in e) left
       (ap (λ (o : Option ℕ). is_at o (start_of x.settings r.0)) win.clock_ ∙ eq-eqb (start_of x.settings r.0) w here)
 
-  pub no_tick_here : HasLeft shelves done → expects_tick x.settings x.records J ≡ false
-  no_tick_here h = tick_unexpected x.settings x.records J (left_here h)
+  pub no_tick_here : HasLeft shelves done → expects_tick_from x.settings x.from x.records J ≡ false
+  no_tick_here h = tick_unexpected x.settings (clock_from x.settings x.from J) x.records J (left_here h)
 
   pub counted_all : length done ≡ length shelves → AllDone shelves done → AreCounted J shelves
   counted_all width all q s at =
@@ -230,7 +233,7 @@ module _ (x : Scene) (w : ℕ) (J : Journal) (shelves : List Shelf) (g : IsGathe
   zeros_at (suc n) zero k at = cc
   zeros_at (suc n) (suc q) k at = zeros_at n q k at
 
-  pub window_first : (K : Journal) (n : ℕ) → HoldSame J K → clock K ≡ Some w → IsWindow x w K shelves (replicate n 0)
+  pub window_first : (K : Journal) (n : ℕ) → HoldSame J K → clock_from x.settings x.from K ≡ Some w → IsWindow x w K shelves (replicate n 0)
   window_first K n same at = record {
     width = g.width;
     ahead = g.ahead;
@@ -279,29 +282,45 @@ done_room done batch r at place first index own here room port is q k e other =
     let lt = at_inside batch place r here in
     omega (arith, lt, equal, room)
 
+-- ---- the index of a record
+
+-- the first frame of a port, by its place
+first_is : (firsts : List ℕ) (port at first : ℕ) → at + 1 ≡ port → first ≡ unwrap_or (slice_get firsts at) 0 → first ≡ first_of firsts port
+first_is firsts port at first e is = is ∙ ap (λ (k : ℕ). unwrap_or (slice_get firsts k) 0) (let s : at ≡ port - 1 = omega (arith, e) in s)
+
+-- an index that is behind the first ones by as many
+pub number_as : (firsts : List ℕ) (port at index first own : ℕ) (s : Shelf) (k : ℕ) → at + 1 ≡ port → first ≡ unwrap_or (slice_get firsts at) 0 → own ≡ first_index s + k → index ≡ first + own → index ≡ first_of firsts port + (first_index s + k)
+number_as firsts port at index first own s k e is same number = number ∙ (λ i. first_is firsts port at first e is i + same i)
+
 -- ---- the place of a record's port
 
-place_is : {shelves : List Shelf} {done : List ℕ} {w port index : ℕ} {told : Option ℕ} {r : Record} (o : IsOnShelf shelves done w port index told r) (at : ℕ) → at + 1 ≡ port → at ≡ o.place
+pub shelf_as : {f firsts : List ℕ} {shelves : List Shelf} {done : List ℕ} {w port index : ℕ} {told : Option ℕ} {r : Record} → AreFirsts f firsts → IsOnShelf f shelves done w port index told r → IsOnShelf firsts shelves done w port index told r
+shelf_as {f} {firsts} {shelves} {done} {w} {port} e on = record {
+  place = on.place;
+  is = on.is;
+  shelf = on.shelf;
+  done_ = on.done_;
+  at = on.at;
+  record_ = on.record_;
+  number = on.number ∙ ap (λ (n : ℕ). n + (first_index on.shelf + on.done_)) (e (port - 1));
+  clock_ = on.clock_;
+}
+
+place_is : {firsts : List ℕ} {shelves : List Shelf} {done : List ℕ} {w port index : ℕ} {told : Option ℕ} {r : Record} (o : IsOnShelf firsts shelves done w port index told r) (at : ℕ) → at + 1 ≡ port → at ≡ o.place
 place_is o at e = let is = o.is in omega (arith, e, is)
 
-pub place_inside : {shelves : List Shelf} {done : List ℕ} {w port index : ℕ} {told : Option ℕ} {r : Record} → IsOnShelf shelves done w port index told r → (at : ℕ) → at + 1 ≡ port → at < length done
-place_inside {shelves} {done} o at e = let lt = at_inside done o.place o.done_ o.at.done_ in let same = place_is o at e in omega (arith, lt, same)
+pub place_inside : {firsts : List ℕ} {shelves : List Shelf} {done : List ℕ} {w port index : ℕ} {told : Option ℕ} {r : Record} → IsOnShelf firsts shelves done w port index told r → (at : ℕ) → at + 1 ≡ port → at < length done
+place_inside {firsts} {shelves} {done} o at e = let lt = at_inside done o.place o.done_ o.at.done_ in let same = place_is o at e in omega (arith, lt, same)
 
-count_is : {shelves : List Shelf} {done : List ℕ} {w port index : ℕ} {told : Option ℕ} {r : Record} (o : IsOnShelf shelves done w port index told r) (at : ℕ) → at + 1 ≡ port → get_or done at 0 ≡ o.done_
-count_is {shelves} {done} o at e = ap (λ (n : ℕ). get_or done n 0) (place_is o at e) ∙ get_or_from_slice_get done o.place o.done_ 0 o.at.done_
+count_is : {firsts : List ℕ} {shelves : List Shelf} {done : List ℕ} {w port index : ℕ} {told : Option ℕ} {r : Record} (o : IsOnShelf firsts shelves done w port index told r) (at : ℕ) → at + 1 ≡ port → get_or done at 0 ≡ o.done_
+count_is {firsts} {shelves} {done} o at e = ap (λ (n : ℕ). get_or done n 0) (place_is o at e) ∙ get_or_from_slice_get done o.place o.done_ 0 o.at.done_
 
 -- the counts once the record has a line
-pub counts_more : {shelves : List Shelf} {done : List ℕ} {w port index : ℕ} {told : Option ℕ} {r : Record} (o : IsOnShelf shelves done w port index told r) (at : ℕ) → at + 1 ≡ port → set done at (get_or done at 0 + 1) ≡ set done o.place (o.done_ + 1)
-counts_more {shelves} {done} o at e = λ i. set done (place_is o at e i) (count_is o at e i + 1)
+pub counts_more : {firsts : List ℕ} {shelves : List Shelf} {done : List ℕ} {w port index : ℕ} {told : Option ℕ} {r : Record} (o : IsOnShelf firsts shelves done w port index told r) (at : ℕ) → at + 1 ≡ port → set done at (get_or done at 0 + 1) ≡ set done o.place (o.done_ + 1)
+counts_more {firsts} {shelves} {done} o at e = λ i. set done (place_is o at e i) (count_is o at e i + 1)
 
-pub count_fits : {shelves : List Shelf} {done : List ℕ} {w port index : ℕ} {told : Option ℕ} {r : Record} → IsOnShelf shelves done w port index told r → (at : ℕ) → at + 1 ≡ port → ((q k : ℕ) → port ≡ q + 1 → slice_get done q ≡ Some k → k + 1 < 2 ^ 64) → get_or done at 0 + 1 < 2 ^ 64
+pub count_fits : {firsts : List ℕ} {shelves : List Shelf} {done : List ℕ} {w port index : ℕ} {told : Option ℕ} {r : Record} → IsOnShelf firsts shelves done w port index told r → (at : ℕ) → at + 1 ≡ port → ((q k : ℕ) → port ≡ q + 1 → slice_get done q ≡ Some k → k + 1 < 2 ^ 64) → get_or done at 0 + 1 < 2 ^ 64
 count_fits o at e room = let fits = room o.place o.done_ o.is o.at.done_ in let value = count_is o at e in omega (arith, value, fits)
-
--- ---- the end of a window
-
-pub no_later : (o : Option ℕ) (w : ℕ) → IfSome o (λ t. t < w) → IfSome o (λ t. t ≤ w)
-no_later None w h = tt
-no_later (Some t) w h = omega (arith, h)
 
 abbrev zeros_of : ℕ → List ℕ
 zeros_of n = replicate n 0

@@ -23,6 +23,7 @@ use Rattle.fab_gather.specs.Reads.{IsWhole}
 use Rattle.fab_replay.specs.AllOutputs.{IsFirst, OneRose}
 use Rattle.fab_replay.specs.Counts.{check_end}
 use Rattle.fab_replay.specs.Front.{AreRightLines, IsFirstWrong}
+use Rattle.fab_replay.specs.FrontFrom.{Origin, nothing_of}
 use Rattle.fab_replay.specs.Remains.{Remains}
 use Rattle.fab_replay.specs.declared.fault.CheckFault.{CheckFault}
 use Rattle.fab_replay.specs.declared.fault.CheckFault.TheVariants as fault
@@ -41,16 +42,21 @@ pub record Matter : Type 0 where
 abbrev pub matter_in : Seen → List Input → List ℕ → List ℕ → Matter
 matter_in d ins journal outs = record { ins = opened_in d ins; journal = journal; outputs = length outs; found = λ q. d.left (slot_at outs q) }
 
--- What a check is handed: its configuration, its limits, the captures, the depot as it is at the start, the journal, and the
--- outputs.
+-- What a check is handed: its configuration, where it goes on from, its limits, the captures, the depot as it is at the start, the
+-- journal, and the outputs.
 pub record Task : Type 0 where
   pub settings : Settings
+  pub from : Origin
   pub start : Start
   pub bytes : List ℕ
   pub outs : List ℕ
 
+abbrev pub task_from : Settings → Origin → Budget → List Input → Seen → List ℕ → List ℕ → Task
+task_from c o budget ins d bytes outs = record { settings = c; from = o; start = start_at d ins budget; bytes = bytes; outs = outs }
+
+-- that of a check from nothing
 abbrev pub task_of : Settings → Budget → List Input → Seen → List ℕ → List ℕ → Task
-task_of c budget ins d bytes outs = record { settings = c; start = start_at d ins budget; bytes = bytes; outs = outs }
+task_of c budget ins d bytes outs = task_from c (nothing_of c (all_records (opened_in d ins))) budget ins d bytes outs
 
 -- the captures and the outputs of a task
 abbrev pub slots_in : Task → List ℕ

@@ -44,8 +44,11 @@ is_at None w = false
 is_at (Some t) w = w == t
 
 -- A tick is expected where frames are left, and none of them is of the clock's window, as where there is no clock yet.
+abbrev pub expects_tick_at : Option ℕ → Settings → List (List Record) → Journal → Bool
+expects_tick_at t c ins J = has_left c ins J && not (list_any (is_at t) (windows_left c 1 ins J))
+
 abbrev pub expects_tick : Settings → List (List Record) → Journal → Bool
-expects_tick c ins J = has_left c ins J && not (list_any (is_at (clock J)) (windows_left c 1 ins J))
+expects_tick c ins J = expects_tick_at (clock J) c ins J
 
 -- The tick that comes next on the way to the window of the next frames, with the addresses that it ends.
 pub record IsExpectedTick (c : Settings) (ins : List (List Record)) (J : Journal) (moment : ℕ) (ended : List ℕ) : Type 0 where

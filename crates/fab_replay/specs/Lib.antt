@@ -1,8 +1,10 @@
 pub mod AllOutputs
 pub mod Check
+pub mod CheckFrom
 pub mod Counts
 pub mod Exact
 pub mod Front
+pub mod FrontFrom
 pub mod Laws
 pub mod Lines
 pub mod Outputs

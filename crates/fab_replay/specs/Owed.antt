@@ -7,11 +7,11 @@ use Rattle.fab_config.specs.Settings.{Settings}
 use Rattle.pcap_file.specs.Capture.{head_bytes}
 use Rattle.fab_policy.specs.Journal.{Journal}
 use Rattle.fab_policy.specs.Outputs.{Sent}
-use Rattle.fab_policy.specs.Text.{egress}
 use Rattle.fab_base.specs.Slots.{NameIn, slot_at}
 use Rattle.fab_pages.specs.Pages.{piece_at}
 use Rattle.fab_replay.specs.AllOutputs.{AreRead, IsFirst, OneRose, page_at}
 use Rattle.fab_replay.specs.Counts.{check_end}
+use Rattle.fab_replay.specs.FrontFrom.{Origin, capture_from}
 use Rattle.fab_replay.specs.Outputs.{IsRead}
 use Rattle.fab_replay.specs.declared.fault.CheckFault.{CheckFault}
 use Rattle.fab_replay.specs.declared.fault.CheckFault.TheVariants as fault
@@ -25,11 +25,11 @@ abbrev pub AreSoon : List Sent → Type 0
 AreSoon [] = Unit {0}
 AreSoon (s ∷ sents) = (s.moment < 2 ^ 53) × AreSoon sents
 
--- From one journal to another the pages of a forwarder's n ports grew by the records of what was sent between them: what was, with
--- the pages, the capture of the first, is with the pages that of the second.
-pub record PagesGrow (c : Settings) (n : ℕ) (J K : Journal) (old new : List (List ℕ)) : Type 0 where
+-- From some entries behind a state to others the pages of a forwarder's n ports grew by the records of what was sent between them: what
+-- was, with the pages, the capture of the first, is with the pages that of the second.
+pub record PagesGrow (c : Settings) (n : ℕ) (o : Origin) (J K : Journal) (old new : List (List ℕ)) : Type 0 where
   pub count : length new ≡ length old
-  pub pages : (q : ℕ) → q < length old → (before : List ℕ) → egress c n (q + 1) J ≡ before ++ piece_at old q → egress c n (q + 1) K ≡ before ++ piece_at new q
+  pub pages : (q : ℕ) → q < length old → (before : List ℕ) → capture_from c n o (q + 1) J ≡ before ++ piece_at old q → capture_from c n o (q + 1) K ≡ before ++ piece_at new q
 
 -- ---- pages and outputs
 
@@ -44,11 +44,11 @@ pub record AreNew (n : ℕ) (o : Owed) : Type 0 where
   pub heads : (q : ℕ) → q < n → page_at o.pages.items q ≡ head_bytes
   pub fresh : (q : ℕ) (c : Compared) → slice_get o.all.items q ≡ Some c → (found : List ℕ) → IsRead c found found []
 
--- Each output, as it stood at the start, was read against the capture of a journal but for what is on its page.
-pub record IsOwed (c : Settings) (n : ℕ) (start d : Seen) (outs : List ℕ) (J : Journal) (o : Owed) : Type 0 where
+-- Each output, as it stood at the start, was read against the capture of entries but for what is on its page.
+pub record IsOwed (c : Settings) (n : ℕ) (from : Origin) (start d : Seen) (outs : List ℕ) (J : Journal) (o : Owed) : Type 0 where
   pub before : ℕ → List ℕ
   pub read : AreRead d outs o.all.items (λ q. start.left (slot_at outs q)) before
-  pub next : (q : ℕ) → q < length outs → egress c n (q + 1) J ≡ before q ++ page_at o.pages.items q
+  pub next : (q : ℕ) → q < length outs → capture_from c n from (q + 1) J ≡ before q ++ page_at o.pages.items q
 
 -- Reading each output on against its page, and emptying the pages.
 pub record ReadsOn (slots : List ℕ) (a b : Seen) (o o' : Owed) (result : Result (Unit {0}) Failed) : Type 0 where

@@ -43,6 +43,6 @@ shown_by entries T = entries_line entries ++ clock_line T.clock ++ ports_lines T
 abbrev pub shown : Settings → Journal → List ℕ
 shown c J = shown_by (length J) (tables_of c J)
 
--- N_Ports by ascending address. No public clause cites it: the tables of each journal are so.
+-- N_Ports by ascending address: the tables of each journal are so, and each state from which a fabric can go on.
 abbrev pub AreInOrder : List LivePort → Type 0
 AreInOrder ports = AscendFrom (λ p. p.address) 0 ports

@@ -1,16 +1,16 @@
 -- What stands between two lines of a journal, while a window of the captures is checked. No public clause cites this module.
-use Rattle.std.specs.Prelude.{◌≡◌, ℕ, ◌+◌, ◌%◌, ◌^◌, ◌≤◌, ◌<◌, ◌⊎◌, Bool, true, IfErr, IfSome, IsTrue, List, [], ◌∷◌, ◌++◌, length, drop, MatchResult, Option, Some, slice_get, replicate, Result, Err, OnOk, Vec}
+use Rattle.std.specs.Prelude.{◌≡◌, ℕ, ◌+◌, ◌%◌, ◌^◌, ◌≤◌, ◌<◌, ◌⊎◌, Bool, true, IfErr, IfSome, IsTrue, List, [], ◌∷◌, ◌++◌, length, drop, MatchResult, Option, Some, slice_get, replicate, Result, Err, OnOk, Vec, unwrap_or}
 use Rattle.std.specs.declared.alloc.Global.{Global}
 use Rattle.fab_base.specs.declared.values.Caught.{Caught}
 use Rattle.fab_config.specs.Settings.{Settings}
 use Rattle.pcap_file.specs.declared.Record.{Record}
 use Rattle.fab_policy.specs.Growing.{AreFrom}
-use Rattle.fab_policy.specs.Journal.{Journal, clock}
+use Rattle.fab_policy.specs.Journal.{Journal}
 use Rattle.fab_gather.specs.Keeping.{IsAhead}
-use Rattle.fab_policy.specs.Legal.{IsLeastOf, IsNextTick, Legal, left_of, of_port, windows_left}
+use Rattle.fab_policy.specs.Legal.{IsLeastOf, IsNextTickBy, left_of, of_port, windows_left}
 use Rattle.fab_gather.specs.Looks.{Stop}
 use Rattle.fab_policy.specs.Ranged.{IsRanged}
-use Rattle.fab_policy.specs.Standing.{Contents, Stands}
+use Rattle.fab_policy.specs.Standing.{Contents}
 use Rattle.fab_policy.specs.State.{Tables}
 use Rattle.fab_policy.specs.Verdicts.{IsRight}
 use Rattle.fab_policy.specs.declared.event.Event.TheVariants.{Frame}
@@ -21,10 +21,11 @@ use Rattle.fab_gather.specs.Port.{AreIn}
 use Rattle.fab_gather.specs.Reads.{first_index}
 use Rattle.fab_gather.specs.declared.shelf.Shelf.{Shelf}
 use Rattle.fab_pages.specs.Pages.{items_in}
-use Rattle.fab_replay.specs.Front.{IsFront, IsFirstWrong, expects_tick}
-use Rattle.fab_replay.specs.Lines.{IsBehind, IsInside, IsOfLine, number_behind}
+use Rattle.fab_states.specs.Runs.{first_of}
+use Rattle.fab_states.specs.States.{LegalFrom, state_on}
+use Rattle.fab_replay.specs.FrontFrom.{IsBegunFrom, IsBehindFrom, IsFirstWrongFrom, IsFrontFrom, Origin, RemainsFrom, StandsFrom, clock_from, expects_tick_from, now_from}
+use Rattle.fab_replay.specs.Lines.{IsInside, IsOfLine, number_behind}
 use Rattle.fab_replay.specs.Owed.{PagesGrow}
-use Rattle.fab_replay.specs.Remains.{IsBegun, Remains}
 use Rattle.fab_replay.specs.declared.fault.CheckFault.{CheckFault}
 use Rattle.fab_replay.specs.declared.fault.CheckFault.TheVariants as fault
 use Rattle.fab_replay.specs.declared.fault.LineWhy.TheVariants as why
@@ -33,38 +34,43 @@ use Rattle.fab_replay.specs.declared.lines.Place.{Place}
 use Rattle.fab_replay.specs.declared.verdicts.Misjudged.{Misjudged}
 use Rattle.fab_replay.specs.declared.verdicts.Misjudged.TheVariants as misjudged
 
--- What a journal is checked against, with where the reading of the captures stops, and its text.
+-- as many frames of each port were before the one as before the other
+abbrev pub AreFirsts : List ℕ → List ℕ → Type 0
+AreFirsts firsts others = (q : ℕ) → unwrap_or (slice_get firsts q) 0 ≡ unwrap_or (slice_get others q) 0
+
+-- What entries behind a state are checked against, with where the reading of the captures stops, and their text.
 pub record Scene : Type 0 where
   pub settings : Settings
+  pub from : Origin
   pub records : List (List Record)
   pub stop : Option Stop
   pub bytes : List ℕ
 
 -- The lines before a place are right, and a fabric stands for their entries.
 pub record IsReached (x : Scene) (J : Journal) (F : Contents) (p : Place) : Type 0 where
-  pub front : IsFront x.settings x.records J
-  pub behind : IsBehind x.bytes p J
-  pub stands : Stands F J
+  pub front : IsFrontFrom x.settings x.from x.records J
+  pub behind : IsBehindFrom (now_from x.from) x.bytes p J
+  pub stands : StandsFrom x.from F J
   pub settings : F.settings ≡ x.settings
   pub count : F.count ≡ length x.records
 
--- The lines before a place are those of a legal journal for which a fabric stands; where the captures are known, its frames
--- are theirs.
+-- The lines before a place are those of legal entries for which a fabric stands; where the captures are known, its frames are
+-- theirs.
 pub record IsAlong (x : Scene) (told : Bool) (J : Journal) (F : Contents) (p : Place) : Type 0 where
-  pub behind : IsBehind x.bytes p J
+  pub behind : IsBehindFrom (now_from x.from) x.bytes p J
   pub ranged : IsRanged J
-  pub legal : Legal x.settings J
-  pub stands : Stands F J
+  pub legal : LegalFrom x.settings x.from.state J
+  pub stands : StandsFrom x.from F J
   pub settings : F.settings ≡ x.settings
-  pub begun : IsTrue told → IsBegun x.settings x.records J
+  pub begun : IsTrue told → IsBegunFrom x.settings x.from x.records J
 
 -- a fabric after a fault
 abbrev pub Left : Scene → Bool → Contents → CheckFault → Type 0
-Left x told F e = Remains x.settings x.records told x.bytes F (Err e)
+Left x told F e = RemainsFrom x.settings x.from x.records told x.bytes F (Err e)
 
 -- A fault of a line is the first; none of another kind comes here but one of reading and want of memory.
 abbrev pub IsFound : Scene → CheckFault → Type 0
-IsFound x (fault.Line line why) = IsFirstWrong x.settings x.records x.stop x.bytes line why
+IsFound x (fault.Line line why) = IsFirstWrongFrom x.settings x.from x.records x.stop x.bytes line why
 IsFound x fault.Read = Unit {0}
 IsFound x fault.Memory = Unit {0}
 IsFound x _ = ⊥
@@ -97,7 +103,7 @@ spot_at F p pages = record { fabric = F; place = p; pages = pages }
 -- fault. What the fabric stands for goes on likewise, whether or not the captures are known.
 pub record ChecksLines (moment : ℕ) (from : Scene → Journal → Type 0) (to : Scene → Journal → Journal → Type 0) (text : List ℕ) (a b : Spot) (result : Result (Unit {0}) CheckFault) : Type 0 where
   pub checks : (x : Scene) (J : Journal) → x.bytes ≡ text → IsReached x J a.fabric a.place → from x J →
-      MatchResult result (λ _. (K : Journal) × IsReached x K b.fabric b.place × to x J K × PagesGrow x.settings (length x.records) J K (items_in a.pages) (items_in b.pages)) (λ e. IsFound x e)
+      MatchResult result (λ _. (K : Journal) × IsReached x K b.fabric b.place × to x J K × PagesGrow x.settings (length x.records) x.from J K (items_in a.pages) (items_in b.pages)) (λ e. IsFound x e)
   pub left : (x : Scene) (told : Bool) (J : Journal) → x.bytes ≡ text → IsAlong x told J a.fabric a.place → (IsTrue told → from x J) →
       MatchResult result (λ _. (K : Journal) × IsAlong x told K b.fabric b.place × (IsTrue told → to x J K)) (λ e. Left x told b.fabric e)
   pub advances : Advances moment a.fabric b.fabric text b.place result
@@ -114,8 +120,8 @@ HoldSame J K = (port : ℕ) → of_port port K ≡ of_port port J
 pub record IsTickNow (x : Scene) (J : Journal) (m : ℕ) : Type 0 where
   pub window : ℕ
   pub least : IsLeastOf (windows_left x.settings 1 x.records J) window
-  pub next : IsNextTick x.settings J window m
-  pub expected : expects_tick x.settings x.records J ≡ true
+  pub next : IsNextTickBy x.settings (state_on x.settings x.from.state J) window m
+  pub expected : expects_tick_from x.settings x.from x.records J ≡ true
 
 -- ---- frames
 
@@ -140,11 +146,15 @@ pub record IsWindow (x : Scene) (w : ℕ) (J : Journal) (shelves : List Shelf) (
   pub width : length shelves ≡ length x.records
   pub ahead : IsAhead (w + 1) x.stop
   pub ports : (q : ℕ) (s : Shelf) (k : ℕ) → At q shelves done s k → IsPortIn x w J q s k
-  pub clock_ : clock J ≡ Some w
+  pub clock_ : clock_from x.settings x.from J ≡ Some w
+
+-- the numbers of each port's frames begin so
+abbrev pub Begin : Scene → List ℕ → Type 0
+Begin x firsts = AreFirsts x.from.firsts firsts
 
 -- So many records of each port's shelf have lines.
 abbrev pub HasDone : Gathered → List ℕ → Scene → Journal → Type 0
-HasDone g done x J = IsWindow x g.window J g.shelves.now done
+HasDone g done x J = Begin x g.firsts.now × IsWindow x g.window J g.shelves.now done
 
 -- none has yet
 abbrev pub HasNone : Gathered → Scene → Journal → Type 0
@@ -159,15 +169,16 @@ pub record IsAmong (g : Gathered) (text : List ℕ) (F : Contents) (p : Place) :
   pub few : length g.shelves.now ≤ 64
   pub count : F.count ≡ length g.shelves.now
 
--- The record of a port is the next one on its shelf, with this index; a line that tells the clock tells this one.
-pub record IsOnShelf (shelves : List Shelf) (done : List ℕ) (w port index : ℕ) (told : Option ℕ) (r : Record) : Type 0 where
+-- The record of a port is the next one on its shelf, with this index behind those before the check; a line that tells the clock tells
+-- this one.
+pub record IsOnShelf (firsts : List ℕ) (shelves : List Shelf) (done : List ℕ) (w port index : ℕ) (told : Option ℕ) (r : Record) : Type 0 where
   pub place : ℕ
   pub is : port ≡ place + 1
   pub shelf : Shelf
   pub done_ : ℕ
   pub at : At place shelves done shelf done_
   pub record_ : slice_get shelf.batch.items done_ ≡ Some r
-  pub number : index ≡ first_index shelf + done_
+  pub number : index ≡ first_of firsts port + (first_index shelf + done_)
   pub clock_ : IfSome told (λ t. t ≡ w)
 
 -- a line at a place is that of a tick, where none is expected, and this is its fault
@@ -212,10 +223,10 @@ IsRefused c T p port caught verdict fault.Memory = Unit {0}
 IsRefused c T p port caught verdict _ = ⊥
 
 -- What a fabric stands for then: the frame is taken with the verdict that is right; where memory is refused, maybe with one.
-abbrev pub HasTurned : Settings → Contents → Journal → ℕ → ℕ → Caught → CheckFault → Type 0
-HasTurned c G J port index caught (fault.Line n (why.Verdict found made)) = Legal c (Frame port index caught made ∷ J) × Stands G (Frame port index caught made ∷ J)
-HasTurned c G J port index caught fault.Memory = Stands G J ⊎ ((v : Verdict) × Legal c (Frame port index caught v ∷ J) × Stands G (Frame port index caught v ∷ J))
-HasTurned c G J port index caught _ = ⊥
+abbrev pub HasTurned : Settings → Origin → Contents → Journal → ℕ → ℕ → Caught → CheckFault → Type 0
+HasTurned c o G J port index caught (fault.Line n (why.Verdict found made)) = LegalFrom c o.state (Frame port index caught made ∷ J) × StandsFrom o G (Frame port index caught made ∷ J)
+HasTurned c o G J port index caught fault.Memory = StandsFrom o G J ⊎ ((v : Verdict) × LegalFrom c o.state (Frame port index caught v ∷ J) × StandsFrom o G (Frame port index caught v ∷ J))
+HasTurned c o G J port index caught _ = ⊥
 
 -- what it is refused with
 abbrev pub refusal : Place → Verdict → Misjudged → CheckFault
@@ -224,12 +235,12 @@ refusal p found misjudged.Memory = fault.Memory
 
 -- ---- a window
 
--- A check stands before the lines of a window: between two lines of the text, with nothing undrained, and at an earlier moment.
+-- A check stands before the lines of a window: between two lines of the text, with nothing undrained, and not at a later moment.
 pub record IsBefore (w : ℕ) (shelves : List Shelf) (text : List ℕ) (F : Contents) (p : Place) : Type 0 where
   pub inside : IsInside text p
   pub early : w < 2 ^ 53
   pub start : w % F.settings.window ≡ 0
-  pub order : IfSome F.state.tables.clock (λ t. t < w)
+  pub order : IfSome F.state.tables.clock (λ t. t ≤ w)
   pub idle : IsIdle F
   pub few : length shelves ≤ 64
   pub count : F.count ≡ length shelves
@@ -240,6 +251,10 @@ pub record IsGathered (x : Scene) (w : ℕ) (J : Journal) (shelves : List Shelf)
   pub ahead : IsAhead (w + 1) x.stop
   pub ports : (q : ℕ) (s : Shelf) → slice_get shelves q ≡ Some s → IsPortIn x w J q s 0
   pub some : (q : ℕ) × (s : Shelf) × (slice_get shelves q ≡ Some s) × (0 < length s.batch.items)
+
+-- the same, with the numbers before them
+abbrev pub IsNow : List ℕ → List Shelf → Scene → ℕ → Journal → Type 0
+IsNow firsts shelves x w J = Begin x firsts × IsGathered x w J shelves
 
 -- each frame on the shelves has a line
 abbrev pub AreCounted : Journal → List Shelf → Type 0

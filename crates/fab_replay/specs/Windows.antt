@@ -1,8 +1,9 @@
 -- What stands between the windows of a check. No public clause cites this module.
-use Rattle.std.specs.Prelude.{◌≡◌, ℕ, ◌+◌, ◌<◌, ◌≤◌, IsTrue, IfSome, List, length, MatchResult, None, Some, Result, Err, slice_get}
+use Rattle.std.specs.Prelude.{◌≡◌, ℕ, ◌+◌, ◌≤◌, IsTrue, IfSome, List, length, MatchResult, None, Some, Result, Err, slice_get}
 use Rattle.fab_base.specs.Ending.{end_by, SparesReads}
 use Rattle.fab_base.specs.Seen.{Seen, Touches, Nothing, SameWriteFaults}
 use Rattle.pcap_file.specs.declared.Record.{Record}
+use Rattle.fab_config.specs.Settings.{Settings}
 use Rattle.fab_policy.specs.Journal.{Journal}
 use Rattle.fab_policy.specs.Legal.{of_port}
 use Rattle.fab_gather.specs.Looks.{stop, all_records}
@@ -13,11 +14,13 @@ use Rattle.fab_gather.specs.First.{IsNextWindow}
 use Rattle.fab_base.specs.Slots.{NameIn}
 use Rattle.fab_gather.specs.Ports.{AreInputs, TakesFrom, Walk}
 use Rattle.fab_gather.specs.Walked.{Walked}
-use Rattle.fab_replay.specs.Check.{Checks, Leaves, Task, captures_in, matter_of, slots_in}
+use Rattle.fab_gather.specs.declared.shelf.Shelf.{Shelf}
+use Rattle.fab_replay.specs.Check.{Task, captures_in, matter_of, slots_in}
+use Rattle.fab_replay.specs.CheckFrom.{ChecksFrom, LeavesFrom}
 use Rattle.fab_replay.specs.Counts.{check_end}
 use Rattle.fab_replay.specs.Lines.{IsInside}
 use Rattle.fab_replay.specs.Owed.{AreMany, IsOwed}
-use Rattle.fab_replay.specs.Steps.{Scene, IsAlong, IsIdle, IsReached}
+use Rattle.fab_replay.specs.Steps.{AreFirsts, Scene, IsAlong, IsIdle, IsReached}
 use Rattle.fab_replay.specs.declared.fault.CheckFault.{CheckFault}
 use Rattle.fab_replay.specs.declared.fault.CheckFault.TheVariants as fault
 use Rattle.fab_replay.specs.declared.windows.Course.{Course}
@@ -25,14 +28,16 @@ use Rattle.fab_replay.specs.declared.windows.Written.{Written}
 
 -- ---- between windows
 
--- a task has this journal and these outputs
+-- a task has this journal, these numbers of frames before it, and these outputs
 pub record IsOf (k : Task) (w : Written) : Type 0 where
   pub journal : k.bytes ≡ w.journal.now
+  pub firsts : AreFirsts k.from.firsts w.firsts.now
   pub outputs : k.outs ≡ w.outs.now
 
 abbrev pub scene_of : Task → Scene
 scene_of k = record {
   settings = k.settings;
+  from = k.from;
   records = all_records (captures_in k);
   stop = stop k.settings k.start.left.bytes k.start.left.frames (captures_in k);
   bytes = k.bytes;
@@ -55,11 +60,16 @@ pub record Stand : Type 0 where
 abbrev pub stand_at : Contents → Course → Walk → Stand
 stand_at F course walk = record { fabric = F; course = course; walk = walk }
 
+-- the next window isn't before the clock
+abbrev pub IsNotEarly : Settings → List Shelf → Contents → Type 0
+IsNotEarly c shelves F = (v : ℕ) → IsNextWindow c shelves (Some v) → IfSome F.state.tables.clock (λ t. t ≤ v)
+
 -- What stands before a window: which records were taken, how far the captures were read, and, where the depot tells, that the lines
 -- so far are right and name the frames of these records, and that the outputs were read against what they send.
 pub record Going (k : Task) (w : ℕ) (s : Stand) : Type 0 where
   pub inputs : AreInputs k.start.seen (slots_in k)
   pub ports : length k.start.ins ≤ 64
+  pub firsts : length k.from.firsts ≡ length k.start.ins
   pub outputs : length k.outs ≤ length k.start.ins
   pub many : AreMany (length k.outs) s.course.owed
   pub touches : Touches Nothing (OfTask k) k.start.seen s.walk.seen
@@ -67,27 +77,27 @@ pub record Going (k : Task) (w : ℕ) (s : Stand) : Type 0 where
   pub walked : Walked k.settings k.start w s.course.first taken s.walk
   pub settings_ : s.fabric.settings ≡ k.settings
   pub count_ : s.fabric.count ≡ length k.start.ins
-  pub clock : IfSome s.fabric.state.tables.clock (λ t. t < w)
+  pub clock : IsNotEarly k.settings s.walk.shelves s.fabric
   pub idle : IsIdle s.fabric
   pub inside : IsInside k.bytes s.course.place
   pub stood : (J : Journal) × IsAlong (scene_of k) k.start.seen.told J s.fabric s.course.place × (IsTrue k.start.seen.told → HaveLines J taken)
   pub lines : IsTrue k.start.seen.told →
-      (J : Journal) × IsReached (scene_of k) J s.fabric s.course.place × HaveLines J taken × IsOwed k.settings (length (scene_of k).records) k.start.seen s.walk.seen k.outs J s.course.owed
+      (J : Journal) × IsReached (scene_of k) J s.fabric s.course.place × HaveLines J taken × IsOwed k.settings (length (scene_of k).records) k.from k.start.seen s.walk.seen k.outs J s.course.owed
 
 -- the check of a task ended with this fault
 abbrev pub Ended : Task → Seen → CheckFault → Type 0
-Ended k d e = (F : Contents) → Checks k d F (Err e)
+Ended k d e = (F : Contents) → ChecksFrom k d F (Err e)
 
 -- what a fabric stands for then
 abbrev pub RemainsOf : Task → Contents → Result ℕ CheckFault → Type 0
-RemainsOf k F r = Leaves k.settings k.start.left (matter_of k) k.start.seen.told F r
+RemainsOf k F r = LeavesFrom k.settings k.from k.start.left (matter_of k) k.start.seen.told F r
 
 abbrev pub LeftBy : Task → Contents → CheckFault → Type 0
 LeftBy k F e = RemainsOf k F (Err e)
 
 -- The check of a task ended: what it answers, and what the fabric stands for.
 pub record Ends (k : Task) (d : Seen) (F : Contents) (result : Result ℕ CheckFault) : Type 0 where
-  pub checks : Checks k d F result
+  pub checks : ChecksFrom k d F result
   pub leaves : RemainsOf k F result
 
 -- What the check of all windows comes to: none is left, or the check ended. However it ends, the configuration and the slots of the

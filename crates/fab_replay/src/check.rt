@@ -6,12 +6,13 @@ ghost use Rattle.fab_gather.specs.First.{AreFresh};
 ghost use Rattle.fab_gather.specs.Ports.{AreInputs, TakesFrom, slots_of, walk_at};
 ghost use Rattle.fab_policy.specs.Journal.{Journal};
 ghost use Rattle.fab_policy.specs.Outputs.{state_of};
-ghost use Rattle.fab_replay.specs.Check.{Checks, Leaves, matter_in, Task, task_of};
+ghost use Rattle.fab_replay.specs.Check.{Checks, Leaves, matter_in, Task, task_from, task_of};
 ghost use Rattle.fab_replay.specs.Counts as spec;
-ghost use Rattle.fab_replay.specs.Front.{expects_tick, has_left};
+ghost use Rattle.fab_replay.specs.Front.{has_left};
+ghost use Rattle.fab_replay.specs.FrontFrom.{Origin, expects_tick_from};
 ghost use Rattle.fab_replay.specs.Lines.{IsInside, IsOfLine, behind_by, end_fault};
 ghost use Rattle.fab_replay.specs.Steps.{IsAlong, IsFound, IsReached, Left, Scene};
-ghost use Rattle.fab_replay.specs.Windows.{Ends, Going, IsOf, stand_at};
+ghost use Rattle.fab_replay.specs.Windows.{Ends, Going, IsNotEarly, IsOf, stand_at};
 ghost use Rattle.fab_policy.specs.Standing.{Contents};
 ghost use Rattle.std.specs.Prelude.{drop};
 
@@ -69,7 +70,11 @@ pub fn check_captures<D: Depot>(
     // For the checker: a fault that is handed on by `?` holds these enums.
     let _verdicts: &[Verdict] = &[];
     let _whys: &[LineWhy] = &[];
-    let written = Written { journal, outs };
+    let written = Written {
+        journal,
+        firsts: &[],
+        outs,
+    };
     let mut begun = look_first(alloc, depot, fabric, &written, ins, budget)?;
     check_begun(alloc, depot, fabric, &written, ins, budget, &mut begun)
 }
@@ -88,11 +93,12 @@ fn look_first<D: Depot>(
     requires inputs { AreInputs (D.seen depot.old) (slots_of ins.old ++ written.now.outs.now) }
     requires fresh { AreFresh ins.old }
     requires count { fabric.now.count ≡ length ins.old }
-    requires state { fabric.now.state ≡ state_of fabric.now.settings [] }
     requires nothing { (fabric.now.events ≡ []) × (fabric.now.outs ≡ []) }
-    ensures begins { let k = task_of fabric.now.settings budget.old ins.old (D.seen depot.old)
+    ensures begins { (o : Origin) → fabric.now.state ≡ o.state
+        → length o.firsts ≡ length ins.old → let k = task_from fabric.now.settings o budget.old ins.old (D.seen depot.old)
         written.now.journal.now written.now.outs.now in MatchResult result
-        (λ b. Going k 0 (stand_at fabric.now b.course
+        (λ b. IsNotEarly k.settings b.shelves.items fabric.now → Going k 0
+        (stand_at fabric.now b.course
         (walk_at (D.seen depot.new) ins.new b.shelves.items budget.new)))
         (λ e. Ends k (D.seen depot.new) fabric.now (Err e)) }
     ensures takes { TakesFrom ins.old ins.new budget.old budget.new }
@@ -158,11 +164,11 @@ fn check_end(alloc: Global, journal: &[u8], place: &Place) -> Result<(), CheckFa
     requires inside { IsInside journal.now place.now }
     ensures checks { (x : Scene) (J : Journal) (F : Contents) → x.bytes ≡ journal.now
         → x.stop ≡ None → IsReached x J F place.now → has_left x.settings x.records J ≡ false
-        → expects_tick x.settings x.records J ≡ false
+        → expects_tick_from x.settings x.from x.records J ≡ false
         → MatchResult result (λ _. drop place.now.at journal.now ≡ []) (λ e. IsFound x e) }
     ensures left { (x : Scene) (told : Bool) (J : Journal) (F : Contents) → x.bytes ≡ journal.now
         → IsAlong x told J F place.now
-        → (IsTrue told → expects_tick x.settings x.records J ≡ false)
+        → (IsTrue told → expects_tick_from x.settings x.from x.records J ≡ false)
         → IfErr result (λ e. Left x told F e) }
     ensures only { IfErr result IsOfLine }
 {

@@ -1,13 +1,13 @@
 //! The lines of the frames of a window.
-ghost use Rattle.std.specs.Prelude.{◌≡◌, ◌+◌, ◌<◌, ◌≤◌, ◌^◌, ◌∷◌, ℕ, IsSome, IfOk, IfSome, MatchOption, MatchBool, MatchResult, OnOk, IfErr, length, option_copied, replicate, slice_get};
+ghost use Rattle.std.specs.Prelude.{◌≡◌, ◌+◌, ◌<◌, ◌≤◌, ◌^◌, ◌∷◌, ℕ, IsSome, IfOk, IfSome, MatchOption, MatchBool, MatchResult, OnOk, IfErr, length, option_copied, replicate, slice_get, unwrap_or};
 ghost use Rattle.fab_policy.specs.Journal.{Journal};
-ghost use Rattle.fab_policy.specs.Legal.{Legal};
 ghost use Rattle.fab_policy.specs.Ranged.{IsRangedEvent};
-ghost use Rattle.fab_policy.specs.Standing.{Stands};
 ghost use Rattle.fab_policy.specs.declared.event.Event.TheVariants as event;
 ghost use Rattle.fab_policy.specs.declared.line.Line.TheVariants as line_;
 ghost use Rattle.fab_pages.specs.Pages.{items_in};
+ghost use Rattle.fab_replay.specs.FrontFrom.{Origin, StandsFrom};
 ghost use Rattle.fab_replay.specs.Lines.{IsOfLine};
+ghost use Rattle.fab_states.specs.States.{LegalFrom};
 ghost use Rattle.fab_replay.specs.Steps as spec;
 ghost use Rattle.fab_replay.specs.Owed.{PagesGrow};
 ghost use Rattle.fab_replay.specs.Steps.{AllDone, AreCounted, ChecksLines, HasDone, HasLeft, HasNone, HasTurned, IsAmong, IsIdle, IsOfNone, IsOfTick, IsOnShelf, IsRefused, spot_at};
@@ -25,10 +25,12 @@ use heard_frames::hear;
 use pcap_file::Record;
 use std::alloc::Global;
 
-/// A window's records, on the shelves of their ports.
+/// A window's records, on the shelves of their ports, and how many frames each port had before the
+/// check.
 #[derive(Clone, Copy, Debug)]
 pub(crate) struct Gathered<'a> {
     pub(crate) window: u64,
+    pub(crate) firsts: &'a [u64],
     pub(crate) shelves: &'a [Shelf],
 }
 
@@ -151,9 +153,9 @@ fn record_of<'a>(
     requires room { place.now.entries + place.now.entries ≤ place.now.at }
     requires count { length done.now ≡ length gathered.now.shelves.now }
     ensures named { let g = gathered.now in let l = words.now in MatchResult result
-        (λ r. IsOnShelf g.shelves.now done.now g.window l.port l.index l.clock r.now)
-        (λ e. IsOfNone place.now (IsOnShelf g.shelves.now done.now g.window l.port l.index l.clock)
-        e) }
+        (λ r. IsOnShelf g.firsts.now g.shelves.now done.now g.window l.port l.index l.clock r.now)
+        (λ e. IsOfNone place.now (IsOnShelf g.firsts.now g.shelves.now done.now g.window l.port
+        l.index l.clock) e) }
     ensures room { IfOk result (λ r. (q k : ℕ) → words.now.port ≡ q + 1
         → slice_get done.now q ≡ Some k → k + 1 < 2 ^ 64) }
     ensures only { IfErr result IsOfLine }
@@ -176,19 +178,19 @@ fn take_frame(
     requires clock { IsSome fabric.old.state.tables.clock }
     requires early { IfSome fabric.old.state.tables.clock (λ t. t < 2 ^ 53) }
     requires idle { IsIdle fabric.old }
-    ensures journal { OnOk result ((J : Journal) → Legal fabric.old.settings J
-        → Stands fabric.old J → let n = named.now in
+    ensures entries { OnOk result ((o : Origin) (J : Journal)
+        → LegalFrom fabric.old.settings o.state J → StandsFrom o fabric.old J → let n = named.now in
         let K = event.Frame n.port n.index n.found.now.caught n.verdict ∷ J in
-        Legal fabric.old.settings K × Stands fabric.new K
-        × PagesGrow fabric.old.settings fabric.old.count J K (items_in pages.old)
+        LegalFrom fabric.old.settings o.state K × StandsFrom o fabric.new K
+        × PagesGrow fabric.old.settings fabric.old.count o J K (items_in pages.old)
         (items_in pages.new)) }
     ensures ranged { OnOk result (let n = named.now in
         IsRangedEvent (event.Frame n.port n.index n.found.now.caught n.verdict)) }
     ensures refused { IfErr result (λ e. IsRefused fabric.old.settings fabric.old.state.tables
         place.now named.now.port named.now.found.now.caught named.now.verdict e) }
-    ensures left { IfErr result (λ e. (J : Journal) → Legal fabric.old.settings J
-        → Stands fabric.old J → let n = named.now in
-        HasTurned fabric.old.settings fabric.new J n.port n.index n.found.now.caught e) }
+    ensures left { IfErr result (λ e. (o : Origin) (J : Journal)
+        → LegalFrom fabric.old.settings o.state J → StandsFrom o fabric.old J → let n = named.now in
+        HasTurned fabric.old.settings o fabric.new J n.port n.index n.found.now.caught e) }
     ensures clock { OnOk result
         (fabric.new.state.tables.clock ≡ fabric.old.state.tables.clock) }
     ensures settings { (fabric.new.settings ≡ fabric.old.settings)
@@ -233,10 +235,10 @@ fn next_on_shelf<'a>(
     clock: Option<Moment>,
 ) -> Option<&'a Record>
     requires count { length done.now ≡ length gathered.now.shelves.now }
-    ensures named { MatchOption result
-        ((r : of_captures) → IsOnShelf gathered.now.shelves.now done.now gathered.now.window port
-        index clock r → ⊥) (λ r. IsOnShelf gathered.now.shelves.now done.now gathered.now.window
-        port index clock r.now) }
+    ensures named { let g = gathered.now in MatchOption result
+        ((r : of_captures) → IsOnShelf g.firsts.now g.shelves.now done.now g.window port index
+        clock r → ⊥)
+        (λ r. IsOnShelf g.firsts.now g.shelves.now done.now g.window port index clock r.now) }
     ensures room { IfSome result (λ r. (q k : ℕ) → port ≡ q + 1 → slice_get done.now q ≡ Some k
         → k + 1 < 2 ^ 64) }
 {
@@ -247,10 +249,31 @@ fn next_on_shelf<'a>(
     let shelf = shelf_at(gathered.shelves, at)?;
     let place = done_at(done, at)?;
     let found = record_at(shelf, place)?;
-    if shelf.first_index() + place as u64 != index {
+    if !is_number(
+        index,
+        first_at(gathered.firsts, at),
+        shelf.first_index() + place as u64,
+    ) {
         return None;
     }
     Some(found)
+}
+
+// How many frames a port had before the check.
+fn first_at(firsts: &[u64], port: usize) -> u64
+    ensures { result ≡ unwrap_or (slice_get firsts.now port) 0 }
+{
+    match firsts.get(port) {
+        Some(first) => *first,
+        None => 0,
+    }
+}
+
+// Whether an index is that of a frame behind the first ones.
+fn is_number(index: u64, first: u64, own: u64) -> bool
+    ensures { MatchBool result (index ≡ first + own) (index ≡ first + own → ⊥) }
+{
+    index >= first && index - first == own
 }
 
 // The shelf of a port.

@@ -1,7 +1,6 @@
 //! What a fabric sends while a journal is checked.
 ghost use Rattle.std.specs.Prelude.{◌≡◌, IfOk, OnOk, length};
-ghost use Rattle.fab_policy.specs.Journal.{Journal};
-ghost use Rattle.fab_policy.specs.Standing.{Stands, drained};
+ghost use Rattle.fab_policy.specs.Standing.{drained};
 ghost use Rattle.fab_pages.specs.Pages.{Adds, items_in};
 ghost use Rattle.forward_core.specs.Fabric.{AreRanged};
 ghost use Rattle.fab_replay.specs.Owed.{AreSoon};
@@ -19,7 +18,6 @@ pub(crate) fn take_sent(
 ) -> Result<Drained, NoMemory>
     requires early { AreSoon fabric.old.outs }
     ensures fabric { fabric.new ≡ drained fabric.old }
-    ensures stands { (J : Journal) → Stands fabric.old J → Stands fabric.new J }
     ensures ranged { AreRanged fabric.old.events }
     ensures events { IfOk result (λ d. d.events ≡ fabric.old.events) }
     ensures adds { OnOk result (Adds fabric.old.outs (items_in pages.old) (items_in pages.new)) }

@@ -27,6 +27,8 @@ pub fn write_shown(
 ) -> Result<(), NoMemory>
     ensures ok { OnOk result ((J : Journal) → Stands fabric.now J → out.new.items
         ≡ out.old.items ++ shown_by entries (tables_of fabric.now.settings J)) }
+    ensures state { AreInOrder fabric.now.state.tables.ports → OnOk result
+        (out.new.items ≡ out.old.items ++ shown_by entries fabric.now.state.tables) }
     ensures err { OnErr result (out.new.items ≡ out.old.items) }
 {
     // Law: in the tables of a legal journal the N_Ports ascend, as the lines want them.

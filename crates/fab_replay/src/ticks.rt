@@ -37,7 +37,8 @@ pub(crate) fn check_ticks(
         → IsLeastOf (windows_left x.settings 1 x.records J) window
         → IsAhead (window + 1) x.stop → MatchResult result
         (λ _. (K : Journal) × IsReached x K fabric.new place.new × HoldSame J K
-        × PagesGrow x.settings (length x.records) J K (items_in pages.old) (items_in pages.new))
+        × PagesGrow x.settings (length x.records) x.from J K (items_in pages.old)
+        (items_in pages.new))
         (λ e. IsFound x e) }
     ensures left { (x : Scene) (told : Bool) (J : Journal) → x.bytes ≡ journal.now
         → IsAlong x told J fabric.old place.old
@@ -74,7 +75,7 @@ fn check_tick(
     ensures checks { (x : Scene) (J : Journal) (t : IsTickNow x J moment) → x.bytes ≡ journal.now
         → IsReached x J fabric.old place.old → IsAhead (t.window + 1) x.stop → MatchResult result
         (λ _. (ended : List ℕ) × IsReached x (event.Tick moment ended ∷ J) fabric.new place.new
-        × PagesGrow x.settings (length x.records) J (event.Tick moment ended ∷ J)
+        × PagesGrow x.settings (length x.records) x.from J (event.Tick moment ended ∷ J)
         (items_in pages.old) (items_in pages.new))
         (λ e. IsFound x e) }
     ensures left { (x : Scene) (told : Bool) (J : Journal) → x.bytes ≡ journal.now

@@ -8,7 +8,7 @@ ghost use Rattle.fab_policy.specs.Journal.{Journal};
 ghost use Rattle.fab_replay.specs.AllOutputs.{OneRose};
 ghost use Rattle.fab_replay.specs.Counts.{check_end};
 ghost use Rattle.fab_replay.specs.Owed.{AreMany, IsOwed};
-ghost use Rattle.fab_replay.specs.Steps.{Advances, AreCounted, ChecksLines, IsAlong, IsBefore, IsFound, IsGathered, IsReached, Left, Scene, spot_at};
+ghost use Rattle.fab_replay.specs.Steps.{Advances, AreCounted, ChecksLines, IsAlong, IsBefore, IsFound, IsNow, IsReached, Left, Scene, spot_at};
 ghost use Rattle.fab_replay.specs.Windows as spec;
 ghost use Rattle.fab_replay.specs.Check.{Task};
 ghost use Rattle.fab_replay.specs.Windows.{Going, IsOf, Turns, stand_at};
@@ -25,10 +25,12 @@ use forward_core::Fabric;
 use pcap_file::{Budget, GatherFault};
 use std::alloc::Global;
 
-/// What is checked: a journal's text, and the slots of the outputs of the first ports.
+/// What is checked: a journal's text, how many frames each port had before it, 0 where the list is
+/// shorter, and the slots of the outputs of the first ports.
 #[derive(Clone, Copy, Debug)]
 pub(crate) struct Written<'a> {
     pub(crate) journal: &'a [u8],
+    pub(crate) firsts: &'a [u64],
     pub(crate) outs: &'a [u32],
 }
 
@@ -64,6 +66,7 @@ pub(crate) fn check_windows<D: Depot>(
     // For the checker: a fault that is handed on by `?` holds these enums.
     let _verdicts: &[Verdict] = &[];
     let _whys: &[LineWhy] = &[];
+    let mut from = 0;
     'windows: while let Some(window) = next_window(fabric.config(), shelves) {
         let config = fabric.config();
         let first = course.first;
@@ -72,6 +75,7 @@ pub(crate) fn check_windows<D: Depot>(
             Err(fault) => return Err(fault_of(fault)),
         }
         check_gathered(alloc, depot, fabric, written, window, shelves, course)?;
+        from = window + 1;
     }
     Ok(())
 }
@@ -105,16 +109,17 @@ fn check_gathered<D: Depot>(
     requires many { AreMany (length written.now.outs.now) course.old.owed }
     ensures checks { IsTrue (D.seen depot.old).told → (x : Scene) (J : Journal) (start : Seen)
         → x.bytes ≡ written.now.journal.now → IsReached x J fabric.old course.old.place
-        → IsGathered x window J shelves.now
-        → IsOwed x.settings (length x.records) start (D.seen depot.old) written.now.outs.now J
-        course.old.owed → MatchResult result
+        → IsNow written.now.firsts.now shelves.now x window J
+        → IsOwed x.settings (length x.records) x.from start (D.seen depot.old)
+        written.now.outs.now J course.old.owed → MatchResult result
         (λ _. (K : Journal) × IsReached x K fabric.new course.new.place
-        × AreCounted K shelves.now × IsOwed x.settings (length x.records) start
+        × AreCounted K shelves.now × IsOwed x.settings (length x.records) x.from start
         (D.seen depot.new) written.now.outs.now K course.new.owed)
         (λ e. IsFound x e) }
     ensures left { (x : Scene) (told : Bool) (J : Journal) → x.bytes ≡ written.now.journal.now
         → IsAlong x told J fabric.old course.old.place
-        → (IsTrue told → IsGathered x window J shelves.now) → MatchResult result
+        → (IsTrue told → IsNow written.now.firsts.now shelves.now x window J)
+        → MatchResult result
         (λ _. (K : Journal) × IsAlong x told K fabric.new course.new.place
         × (IsTrue told → AreCounted K shelves.now)) (λ e. Left x told fabric.new e) }
     ensures advances { let text = written.now.journal.now in
@@ -134,7 +139,7 @@ fn check_gathered<D: Depot>(
     check_shelves(
         alloc,
         fabric,
-        written.journal,
+        written,
         &mut course.place,
         window,
         shelves,
@@ -150,27 +155,25 @@ fn check_gathered<D: Depot>(
 fn check_shelves(
     alloc: Global,
     fabric: &mut Fabric,
-    journal: &[u8],
+    written: &Written<'_>,
     place: &mut Place,
     window: u64,
     shelves: &[Shelf],
     pages: &mut [Vec<u8>],
 ) -> Result<(), CheckFault>
-    requires { IsBefore window shelves.now journal.now fabric.old place.old }
-    ensures { ChecksLines window (λ x J. IsGathered x window J shelves.now)
-        (λ x J K. AreCounted K shelves.now) journal.now
+    requires { IsBefore window shelves.now written.now.journal.now fabric.old place.old }
+    ensures { ChecksLines window (λ x J. IsNow written.now.firsts.now shelves.now x window J)
+        (λ x J K. AreCounted K shelves.now) written.now.journal.now
         (spot_at fabric.old place.old pages.old) (spot_at fabric.new place.new pages.new) result }
 {
     // For the checker: a fault that is handed on by `?` holds these enums.
     let _verdicts: &[Verdict] = &[];
     let _whys: &[LineWhy] = &[];
-    check_ticks(alloc, fabric, journal, place, window, pages)?;
-    check_frames(
-        alloc,
-        fabric,
-        journal,
-        place,
-        &Gathered { window, shelves },
-        pages,
-    )
+    check_ticks(alloc, fabric, written.journal, place, window, pages)?;
+    let gathered = Gathered {
+        window,
+        firsts: written.firsts,
+        shelves,
+    };
+    check_frames(alloc, fabric, written.journal, place, &gathered, pages)
 }

@@ -1,13 +1,15 @@
 use Rattle.std.proofs.Common.{[], Err, refl, sym, subst}
 use Rattle.fab_gather.specs.Ports.{slots_of}
 use Rattle.fab_gather.proofs.LeavesLemmas.{takes_none}
-use Rattle.fab_replay.specs.Check.{task_of}
+use Rattle.fab_replay.specs.Check.{task_from}
+use Rattle.fab_replay.specs.FrontFrom.{now_from}
 use Rattle.fab_replay.specs.Windows.{Ends, scene_of}
 use Rattle.fab_replay.specs.declared.fault.CheckFault.TheVariants as fault
 use Rattle.fab_replay.proofs.BeginLemmas.{ends_looks, going_begin}
 use Rattle.fab_replay.proofs.CountLemmas.{counts_gathering, counts_none}
 use Rattle.fab_replay.proofs.GoLemmas.{ended_refused}
 use Rattle.fab_replay.proofs.LeaveLemmas.{along_none, left_line}
+use Rattle.fab_replay.proofs.LineLemmas.{behind_first}
 use Rattle.fab_replay.proofs.RemainLemmas.{stays_refused}
 use Rattle.fab_replay.proofs.ResultLemmas.{told_on}
 use Rattle.fab_replay.proofs.SlotsLemmas.{inputs_front}
@@ -18,13 +20,12 @@ returns-in_err-owed g c =
     let seen = g.D.Depot.seen in
     let F = c.args.fabric.now in
     let p = c.first_place-place.result in
-    let k = task_of F.settings c.args.budget.now c.args.ins.now (seen c.args.depot.now) c.args.written.now.journal.now c.args.written.now.outs.now in
-    let along = along_none k F p refl c.requires.state c.requires.nothing.0 c.requires.nothing.1 c.first_place-place.ensures.behind in
     record {
-      begins = told_on c.from_residual.result fault.Memory _ _ c.from_residual.ensures.1 (record {
-        checks = ended_refused k F;
-        leaves = left_line k F fault.Memory tt (stays_refused (scene_of k) k.start.seen.told [] F p along);
-      });
+      begins = λ o state firsts.
+          let k = task_from F.settings o c.args.budget.now c.args.ins.now (seen c.args.depot.now) c.args.written.now.journal.now c.args.written.now.outs.now in
+          let along = along_none k F p refl state c.requires.nothing.0 c.requires.nothing.1 (behind_first (now_from o) _ p c.first_place-place.ensures.behind) in
+          told_on c.from_residual.result fault.Memory _ _ c.from_residual.ensures.1
+          (record { checks = ended_refused k F; leaves = left_line k F fault.Memory tt (stays_refused (scene_of k) k.start.seen.told [] F p along) });
       takes = takes_none c.args.ins.now c.args.budget.now;
       counts = counts_none (seen c.args.depot.now) c.from_residual.result;
     }
@@ -43,12 +44,13 @@ returns-in-Err g c =
     let seen = g.D.Depot.seen in
     let F = c.args.fabric.now in
     let p = c.first_place-place.result in
-    let k = task_of F.settings c.args.budget.now c.args.ins.now (seen c.args.depot.now) c.args.written.now.journal.now c.args.written.now.outs.now in
     let t = c.in-Err.ensures.looks F.settings in
     record {
-      begins = subst (λ e. Ends k (seen c.first_looks.new.depot) F (Err e)) (sym c.fault_of.ensures)
-          (ends_looks k _ F p c.requires.inputs c.requires.ports.1 c.in-Err.fault t c.first_place-place.ensures.behind
-          (along_none k F p refl c.requires.state c.requires.nothing.0 c.requires.nothing.1 c.first_place-place.ensures.behind));
+      begins = λ o state firsts.
+          let k = task_from F.settings o c.args.budget.now c.args.ins.now (seen c.args.depot.now) c.args.written.now.journal.now c.args.written.now.outs.now in
+          let behind = behind_first (now_from o) _ p c.first_place-place.ensures.behind in
+          subst (λ e. Ends k (seen c.first_looks.new.depot) F (Err e)) (sym c.fault_of.ensures)
+          (ends_looks k _ F p c.requires.inputs c.requires.ports.1 firsts c.in-Err.fault t behind (along_none k F p refl state c.requires.nothing.0 c.requires.nothing.1 behind));
       takes = t.takes;
       counts = counts_gathering _ (seen c.args.depot.now) (seen c.first_looks.new.depot) c.in-Err.fault c.fault_of.result c.fault_of.ensures t.uses;
     }
@@ -57,12 +59,14 @@ pub returns : goal.returns
 returns g c =
     let seen = g.D.Depot.seen in
     let F = c.args.fabric.now in
-    let k = task_of F.settings c.args.budget.now c.args.ins.now (seen c.args.depot.now) c.args.written.now.journal.now c.args.written.now.outs.now in
+    let p = c.first_place-place.result in
     let t = c.in-Ok.ensures.looks F.settings in
     record {
-      begins = going_begin k _ F c.first_place-place.result c.requires.inputs c.requires.ports.1 c.in-Ok.shelves t c.in_ok-owed.owed c.in_ok-owed.ensures c.requires.outputs
+      begins = λ o state firsts early.
+          let k = task_from F.settings o c.args.budget.now c.args.ins.now (seen c.args.depot.now) c.args.written.now.journal.now c.args.written.now.outs.now in
+          going_begin k _ F p c.requires.inputs c.requires.ports.1 firsts c.in-Ok.shelves t c.in_ok-owed.owed c.in_ok-owed.ensures c.requires.outputs
           c.next_window.result c.config.result.now c.deref.result.now c.unwrap_or-first.result c.next_window.ensures.least c.config.ensures c.deref.ensures.value c.unwrap_or-first.ensures
-          refl c.requires.count c.requires.state c.requires.nothing.0 c.requires.nothing.1 c.first_place-place.ensures.behind c.first_place-place.ensures.inside;
+          refl c.requires.count state c.requires.nothing.0 c.requires.nothing.1 early (behind_first (now_from o) _ p c.first_place-place.ensures.behind) c.first_place-place.ensures.inside;
       takes = t.takes;
       counts = t.uses.counts;
     }

@@ -33,4 +33,4 @@ pub returns : goal.returns
 returns c =
     let l = c.lines.invariant in
     then_checked l.lines (λ x J K stands none win. win) (λ x J K L was all. all)
-    (none_checked (among_then c.requires l.lines.advances) (λ x J win. counted_all x _ J _ _ win l.width (if_false c.has_left.result _ _ c.lines-test.false c.has_left.ensures)))
+    (none_checked (among_then c.requires l.lines.advances) (λ x J win. counted_all x _ J _ _ win.1 l.width (if_false c.has_left.result _ _ c.lines-test.false c.has_left.ensures)))

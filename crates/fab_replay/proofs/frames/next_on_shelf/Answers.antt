@@ -1,5 +1,5 @@
-use Rattle.std.proofs.Common.{ℕ, ◌+◌, ◌∙◌, sym, ap}
-use Rattle.fab_replay.proofs.WindowLemmas.{done_room}
+use Rattle.std.proofs.Common.{ℕ, ◌+◌, sym, ap}
+use Rattle.fab_replay.proofs.WindowLemmas.{done_room, number_as}
 use Rattle.fab_replay.proofs.frames.next_on_shelf.Goals as goal
 
 pub returns-clause-named : goal.returns-clause-named
@@ -10,7 +10,7 @@ returns-clause-named c = record {
   done_ = c.in_ok-place.place;
   at = record { shelf = sym c.in_ok-shelf.ensures; done_ = sym c.in_ok-place.ensures };
   record_ = sym c.in_ok-found.ensures;
-  number = sym c.if-first_index-place.false ∙ ap (λ (n : ℕ). n + c.in_ok-place.place) c.first_index.ensures.value;
+  number = number_as _ c.args.port c.index-at.result c.args.index c.first_at.result _ c.in_ok-shelf.shelf.now c.in_ok-place.place c.index-at.ensures.value c.first_at.ensures (ap (λ (n : ℕ). n + c.in_ok-place.place) c.first_index.ensures.value) c.if-not-is_number.ensures;
   clock_ = c.if-is_other.ensures;
 }
 

@@ -8,7 +8,7 @@ use Rattle.fab_replay.proofs.LeftLemmas.{gathered_next}
 use Rattle.fab_replay.proofs.LineLemmas.{line_as, unread_as}
 use Rattle.fab_replay.proofs.RemainLemmas.{along_as, along_tick, left_refused, left_tick, reached_as, stays_refused, stays_unread}
 use Rattle.fab_replay.proofs.ResultLemmas.{told_on}
-use Rattle.fab_replay.proofs.SentLemmas.{grow_reached, grow_taken, legal_there, stands_drained, tick_soon, took_one}
+use Rattle.fab_replay.proofs.SentLemmas.{goes_took, grow_reached, grow_taken, tick_soon, took_one}
 use Rattle.fab_replay.proofs.StepLemmas.{left_then, other_tick, unread_here}
 use Rattle.fab_replay.proofs.ticks.check_tick.Goals as goal
 
@@ -47,7 +47,7 @@ returns-clause-checks c = λ x J t same h ahead.
     let ends = addresses (overdue F.settings F.state.tables c.args.moment) in
     let e = event.Tick c.args.moment ends in
     let events = c.in_ok-drained.ensures.events ∙ took_one c.requires.idle c.in_ok-tick.ensures.takes in
-    let goes = stands_drained F c.tick.new.self G J (e ∷ J) (c.in_ok-tick.ensures.journal J) c.take_sent.ensures.stands in
+    let goes = goes_took x.from F c.tick.new.self G e J c.requires.idle refl c.in_ok-tick.ensures.takes c.take_sent.ensures.fabric in
     let old = items_in c.args.pages.now in
     let new = items_in c.take_sent.new.pages in (
       ends,
@@ -55,7 +55,7 @@ returns-clause-checks c = λ x J t same h ahead.
           (c.in_ok-same_tick.ensures c.args.moment ends events) (ap (λ G. G.settings) c.take_sent.ensures.fabric ∙ c.in_ok-tick.ensures.takes.settings))
           (ap (λ G. G.count) c.take_sent.ensures.fabric ∙ c.in_ok-tick.ensures.takes.count ∙ h.count),
       grow_reached x J (e ∷ J) _ _ old new h
-          (grow_taken F c.tick.new.self e J old new c.requires.idle c.in_ok-tick.ensures.takes (c.in_ok-tick.ensures.journal J (legal_there x J _ _ h) h.stands).1 c.in_ok-drained.ensures.adds),
+          (grow_taken x.from F c.tick.new.self e J old new c.requires.idle c.in_ok-tick.ensures.takes h.stands c.in_ok-drained.ensures.adds),
     )
 
 -- ---- what the fabric stands for
@@ -76,7 +76,7 @@ returns-in_err-drained-clause-left c = λ x told J same h next.
     let G = c.take_sent.new.fabric in
     let ends = addresses (overdue F.settings F.state.tables c.args.moment) in
     told_on c.from_residual-in_err-drained.result fault.Memory _ _ c.from_residual-in_err-drained.ensures.1
-    (left_refused x told J F _ h c.args.moment ends next G (stands_drained F c.tick.new.self G J (event.Tick c.args.moment ends ∷ J) (c.in_ok-tick.ensures.journal J) c.take_sent.ensures.stands))
+    (left_refused x told J F _ h c.args.moment ends next G (goes_took x.from F c.tick.new.self G (event.Tick c.args.moment ends) J c.requires.idle refl c.in_ok-tick.ensures.takes c.take_sent.ensures.fabric))
 
 pub returns-in_err-same_tick-clause-left : goal.returns-in_err-same_tick-clause-left
 returns-in_err-same_tick-clause-left c = λ x told J same h next.
@@ -88,7 +88,7 @@ returns-in_err-same_tick-clause-left c = λ x told J same h next.
     let other = c.in_err-same_tick.ensures c.args.moment _ events in
     told_on c.from_residual-in_err-same_tick.result e _ _ c.from_residual-in_err-same_tick.ensures.1
     (subst (Left x told G) (sym other.is)
-    (left_tick x told J F _ h c.args.moment ends next G (stands_drained F c.tick.new.self G J (event.Tick c.args.moment ends ∷ J) (c.in_ok-tick.ensures.journal J) c.take_sent.ensures.stands) _ refl))
+    (left_tick x told J F _ h c.args.moment ends next G (goes_took x.from F c.tick.new.self G (event.Tick c.args.moment ends) J c.requires.idle refl c.in_ok-tick.ensures.takes c.take_sent.ensures.fabric) _ refl))
 
 pub returns-clause-left : goal.returns-clause-left
 returns-clause-left c = λ x told J same h next.
@@ -97,7 +97,7 @@ returns-clause-left c = λ x told J same h next.
     let ends = addresses (overdue F.settings F.state.tables c.args.moment) in
     let events = c.in_ok-drained.ensures.events ∙ took_one c.requires.idle c.in_ok-tick.ensures.takes in (
       ends,
-      along_tick x told J F _ h c.args.moment ends next G (stands_drained F c.tick.new.self G J (event.Tick c.args.moment ends ∷ J) (c.in_ok-tick.ensures.journal J) c.take_sent.ensures.stands)
+      along_tick x told J F _ h c.args.moment ends next G (goes_took x.from F c.tick.new.self G (event.Tick c.args.moment ends) J c.requires.idle refl c.in_ok-tick.ensures.takes c.take_sent.ensures.fabric)
           c.next_line.new.place c.in_ok-line.line (line_as same refl c.in_ok-line.ensures.line)
           (c.in_ok-same_tick.ensures c.args.moment ends events)
           (ap (λ G. G.settings) c.take_sent.ensures.fabric ∙ c.in_ok-tick.ensures.takes.settings),

@@ -8,7 +8,7 @@ use Rattle.fab_replay.proofs.ticks.check_ticks.Goals as goal
 
 pub ticks-init : goal.ticks-init
 ticks-init c = record {
-  checks = λ x J same h least ahead. (J, h, λ port. refl, grow_none x.settings (length x.records) J (items_in c.args.pages.now));
+  checks = λ x J same h least ahead. (J, h, λ port. refl, grow_none x.settings (length x.records) x.from J (items_in c.args.pages.now));
   left = λ x told J same h least. (J, h, λ port. refl);
   inside = c.requires.inside;
   order = c.requires.order;
@@ -25,7 +25,7 @@ ticks-preserved c = record {
       let at = c.ticks.invariant.checks x J same h least ahead in
       let t = tick_now x J at.0 _ at.1.stands at.1.settings c.args.window m at.2 c.in-Some.ensures least in
       let step = c.in_ok-check_tick.ensures.checks x at.0 t same at.1 ahead in
-      (event.Tick m step.0 ∷ at.0, step.1, at.2, grow_more x.settings (length x.records) J at.0 (event.Tick m step.0 ∷ at.0) (items_in c.args.pages.now) (items_in c.ticks.pages) (items_in c.check_tick.new.pages) at.3 step.2);
+      (event.Tick m step.0 ∷ at.0, step.1, at.2, grow_more x.settings (length x.records) x.from J at.0 (event.Tick m step.0 ∷ at.0) (items_in c.args.pages.now) (items_in c.ticks.pages) (items_in c.check_tick.new.pages) at.3 step.2);
   left = λ x told J same h least.
       let m = c.in-Some.moment in
       let at = c.ticks.invariant.left x told J same h least in

@@ -11,7 +11,7 @@ use Rattle.fab_replay.proofs.ticks.check_ticks.Given as goal
 abbrev pub invariant-ticks : goal.invariant-ticks
 invariant-ticks l = record {
   checks : (x : Scene) (J : Journal) → x.bytes ≡ l.journal → IsReached x J l.fn.fabric l.fn.place → IsLeastOf (windows_left x.settings 1 x.records J) l.window → IsAhead (l.window + 1) x.stop →
-      (K : Journal) × IsReached x K l.fabric l.place × HoldSame J K × PagesGrow x.settings (length x.records) J K (items_in l.fn.pages) (items_in l.pages);
+      (K : Journal) × IsReached x K l.fabric l.place × HoldSame J K × PagesGrow x.settings (length x.records) x.from J K (items_in l.fn.pages) (items_in l.pages);
   left : (x : Scene) (told : Bool) (J : Journal) → x.bytes ≡ l.journal → IsAlong x told J l.fn.fabric l.fn.place → (IsTrue told → IsLeastOf (windows_left x.settings 1 x.records J) l.window) →
       (K : Journal) × IsAlong x told K l.fabric l.place × HoldSame J K;
   inside : IsInside l.journal l.place;

@@ -24,11 +24,11 @@ pub returns-in-Ok-clause-checks : goal.returns-in-Ok-clause-checks
 returns-in-Ok-clause-checks g c = λ told x J start same h gathered owed.
     let seen = g.D.Depot.seen in
     let s = c.in_ok-check_shelves.ensures.checks x J same h gathered in
-    let grow = subst (λ l. PagesGrow x.settings (length x.records) J s.0 (items_in l) (items_in c.check_shelves.new.pages)) c.deref_mut.ensures.value s.3 in (
+    let grow = subst (λ l. PagesGrow x.settings (length x.records) x.from J s.0 (items_in l) (items_in c.check_shelves.new.pages)) c.deref_mut.ensures.value s.3 in (
       s.0,
       s.1,
       s.2,
-      owed_on x.settings (length x.records) start (seen c.args.depot.now) c.args.written.now.outs.now J c.args.course.now.owed c.requires.many owed s.0 c.check_shelves.new.pages _ c.read_on.new.self (seen c.read_on.new.depot) told c.in-Ok.ensures.reads
+      owed_on x.settings (length x.records) x.from start (seen c.args.depot.now) c.args.written.now.outs.now J c.args.course.now.owed c.requires.many owed s.0 c.check_shelves.new.pages _ c.read_on.new.self (seen c.read_on.new.depot) told c.in-Ok.ensures.reads
           (lent_back c.args.course.now.owed.pages.len c.check_shelves.new.pages c.args.course.now.owed.pages.items c.args.course.now.owed.pages.ok.0 (c.check_shelves.ensures.pages ∙ ap length c.deref_mut.ensures.value)) refl grow,
     )
 

@@ -1,6 +1,5 @@
-use Rattle.std.proofs.Common.{◌∙◌, ◌+◌, ◌%◌, ◌^◌, Some, None, Ok, Err, length, refl, sym, ap, subst, arith}
+use Rattle.std.proofs.Common.{◌∙◌, ◌%◌, Some, None, Ok, Err, length, refl, sym, ap, subst, arith}
 use Rattle.fab_config.specs.Settings.{Settings}
-use Rattle.fab_gather.proofs.ClockLemmas.{nearer}
 use Rattle.fab_gather.proofs.LeavesLemmas.{takes_none, takes_then}
 use Rattle.fab_gather.proofs.SlotLemmas.{same_length}
 use Rattle.fab_gather.specs.First.{IsNextWindow}
@@ -14,7 +13,7 @@ use Rattle.fab_replay.proofs.ResultLemmas.{told_on}
 use Rattle.fab_replay.proofs.windows.check_windows.Goals as goal
 
 pub windows-init : goal.windows-init
-windows-init g c = record { turns = λ k same going. (0, going); settings = refl; count = refl; takes = takes_none c.args.ins.now c.args.budget.now; counts = (λ m. refl, λ m. refl) }
+windows-init g c = record { turns = λ k same going. going; settings = refl; count = refl; takes = takes_none c.args.ins.now c.args.budget.now; counts = (λ m. refl, λ m. refl) }
 
 -- ---- gathering the window
 
@@ -22,7 +21,7 @@ pub gather-requires : goal.gather-requires
 gather-requires g c =
     let k = c.requires.going.0 in
     let at = c.windows.invariant.turns k c.requires.going.1 c.requires.going.2 in
-    let h = window_here c.laws_of_windows.ensures k at.0 _ at.1 _ c.config.ensures c.in-Some.window c.in-Some.ensures.least in
+    let h = window_here c.laws_of_windows.ensures k c.windows.from _ at _ c.config.ensures c.in-Some.window c.in-Some.ensures.least in
     let same = same_length k.start.ins c.windows.ins h.going.walked.slots in
     let few = h.going.ports in
     record {
@@ -42,7 +41,7 @@ returns-in-Err g c =
     record {
       turns = λ k same start.
           let at = l.invariant.turns k same start in
-          let h = window_here c.laws_of_windows.ensures k at.0 _ at.1 _ c.config.ensures c.in-Some.window c.in-Some.ensures.least in
+          let h = window_here c.laws_of_windows.ensures k c.windows.from _ at _ c.config.ensures c.in-Some.window c.in-Some.ensures.least in
           subst (λ e. Ends k (seen n.depot) l.fabric (Err e)) (sym c.fault_of.ensures)
           (ends_gathering c.laws_of_windows.ensures k c.in-Some.window _ h.going _ c.in-Err.fault (gathers_as (c.config-config.ensures ∙ h.going.settings_) t));
       settings = l.invariant.settings;
@@ -58,7 +57,7 @@ pub check_gathered-requires : goal.check_gathered-requires
 check_gathered-requires g c =
     let k = c.requires.going.0 in
     let at = c.windows.invariant.turns k c.requires.going.1 c.requires.going.2 in
-    let h = window_here c.laws_of_windows.ensures k at.0 _ at.1 _ c.config.ensures c.in-Some.window c.in-Some.ensures.least in
+    let h = window_here c.laws_of_windows.ensures k c.windows.from _ at _ c.config.ensures c.in-Some.window c.in-Some.ensures.least in
     let same = c.requires.going.1 in
     let t = gathers_as (c.config-config.ensures ∙ h.going.settings_) c.in-Ok.ensures.gathers in
     let ports = same_length k.start.ins c.windows.ins h.going.walked.slots in
@@ -71,7 +70,7 @@ check_gathered-requires g c =
         inside = subst (λ b. IsInside b c.windows.course.place) same.journal h.going.inside;
         early = omega (arith, early);
         start = ap (λ (x : Settings). c.in-Some.window % x.window) (sym c.config.ensures) ∙ c.in-Some.ensures.start;
-        order = h.going.clock;
+        order = h.order;
         idle = h.going.idle;
         few = omega (arith, ports, few, count, on);
         count = h.going.count_ ∙ sym (on ∙ count ∙ ports);
@@ -92,7 +91,7 @@ returns-in_err-check_gathered g c =
     record {
       turns = λ k same start.
           let at = l.invariant.turns k same start in
-          let h = window_here c.laws_of_windows.ensures k at.0 _ at.1 _ c.config.ensures c.in-Some.window c.in-Some.ensures.least in
+          let h = window_here c.laws_of_windows.ensures k c.windows.from _ at _ c.config.ensures c.in-Some.window c.in-Some.ensures.least in
           told_on r f _ _ c.from_residual.ensures.1
           (turned c.laws_of_windows.ensures k c.in-Some.window _ h.going _ (gathers_as (c.config-config.ensures ∙ h.going.settings_) t) h.next n.fabric n.course (seen n.depot) _ same (Err f) e.checks e.left e.touches e.cause e.many e.advances e.first);
       settings = e.advances.settings ∙ l.invariant.settings;
@@ -111,11 +110,9 @@ windows-preserved g c =
     record {
       turns = λ k same start.
           let at = l.invariant.turns k same start in
-          let h = window_here c.laws_of_windows.ensures k at.0 _ at.1 _ c.config.ensures c.in-Some.window c.in-Some.ensures.least in
-          let t = gathers_as (c.config-config.ensures ∙ h.going.settings_) gathered in (
-            c.in-Some.window + 1,
-            turned c.laws_of_windows.ensures k c.in-Some.window _ h.going _ t h.next n.fabric n.course (g.D.Depot.seen n.depot) _ same (Ok tt) e.checks e.left e.touches e.cause e.many e.advances e.first,
-          );
+          let h = window_here c.laws_of_windows.ensures k c.windows.from _ at _ c.config.ensures c.in-Some.window c.in-Some.ensures.least in
+          let t = gathers_as (c.config-config.ensures ∙ h.going.settings_) gathered in
+          turned c.laws_of_windows.ensures k c.in-Some.window _ h.going _ t h.next n.fabric n.course (g.D.Depot.seen n.depot) _ same (Ok tt) e.checks e.left e.touches e.cause e.many e.advances e.first;
       settings = e.advances.settings ∙ l.invariant.settings;
       count = e.advances.count ∙ l.invariant.count;
       takes = takes_then c.args.ins.now l.ins c.gather.new.ins c.args.budget.now l.budget c.gather.new.budget l.invariant.takes gathered.takes;
@@ -129,8 +126,10 @@ pub windows-smaller : goal.windows-smaller
 windows-smaller g c =
     let k = c.requires.going.0 in
     let at = c.windows.invariant.turns k c.requires.going.1 c.requires.going.2 in
-    let h = window_here c.laws_of_windows.ensures k at.0 _ at.1 _ c.config.ensures c.in-Some.window c.in-Some.ensures.least in
-    nearer (2 ^ 43) c.in-Some.window c.windows.fabric.state.tables.clock c.check_gathered.new.fabric.state.tables.clock h.going.clock h.early c.in_ok-check_gathered.ensures.advances.clock_
+    let h = window_here c.laws_of_windows.ensures k c.windows.from _ at _ c.config.ensures c.in-Some.window c.in-Some.ensures.least in
+    let le = h.later in
+    let lt = h.early in
+    omega (arith, le, lt)
 
 -- ---- no window is left
 
@@ -140,9 +139,19 @@ returns g c =
     record {
       turns = λ k same start.
           let at = l.turns k same start in
-          (at.0, at.1, next_here c.laws_of_windows.ensures k at.0 _ at.1 _ c.config.ensures None c.in_default.ensures.least);
+          (c.windows.from, at, next_here c.laws_of_windows.ensures k c.windows.from _ at _ c.config.ensures None c.in_default.ensures.least);
       settings = l.settings;
       count = l.count;
       takes = l.takes;
       counts = l.counts;
     }
+
+-- ---- the number behind the window
+
+pub overflow_add-from : goal.overflow_add-from
+overflow_add-from g c =
+    let k = c.requires.going.0 in
+    let at = c.windows.invariant.turns k c.requires.going.1 c.requires.going.2 in
+    let h = window_here c.laws_of_windows.ensures k c.windows.from _ at _ c.config.ensures c.in-Some.window c.in-Some.ensures.least in
+    let lt = h.early in
+    omega (arith, lt)

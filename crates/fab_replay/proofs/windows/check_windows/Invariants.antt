@@ -1,6 +1,5 @@
-use Rattle.std.proofs.Common.{ℕ, ◌≡◌, ◌^◌}
+use Rattle.std.proofs.Common.{◌≡◌, ◌-◌, ◌^◌}
 use Rattle.fab_base.specs.Ending.{NoFaults}
-use Rattle.fab_gather.proofs.ClockLemmas.{distance}
 use Rattle.fab_gather.specs.Ports.{TakesFrom, walk_at}
 use Rattle.fab_replay.specs.Check.{Task}
 use Rattle.fab_replay.specs.Windows.{Going, IsOf, stand_at}
@@ -11,7 +10,7 @@ invariant-windows g l =
     let seen = g.D.Depot.seen in
     record {
       turns : (k : Task) → IsOf k l.written → Going k 0 (stand_at l.fn.fabric l.fn.course (walk_at (seen l.fn.depot) l.fn.ins l.fn.shelves l.fn.budget)) →
-          (v : ℕ) × Going k v (stand_at l.fabric l.course (walk_at (seen l.depot) l.ins l.shelves l.budget));
+          Going k l.from (stand_at l.fabric l.course (walk_at (seen l.depot) l.ins l.shelves l.budget));
       settings : l.fabric.settings ≡ l.fn.fabric.settings;
       count : l.fabric.count ≡ l.fn.fabric.count;
       takes : TakesFrom l.fn.ins l.ins l.fn.budget l.budget;
@@ -19,4 +18,4 @@ invariant-windows g l =
     }
 
 abbrev pub decreases-windows : goal.decreases-windows
-decreases-windows g l = distance (2 ^ 43) l.fabric.state.tables.clock
+decreases-windows g l = 2 ^ 43 - l.from
