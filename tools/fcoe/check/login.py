@@ -52,12 +52,12 @@ def flagged(talk: Talk, tally: Tally) -> None:
         tally.judge(it, want("flags", f"{flags:04x}", "FP (8000) or SP (4000) set", bool(flags & (FP | SP))))
 
 
-@RULES.rule("login-mac", "FC-BB-5, server-provided MAC addresses", "With SP the MAC descriptor has a MAC of one station.")
+@RULES.rule("login-mac", "FC-BB-5, server-provided MAC addresses", "With SP alone the MAC descriptor has a MAC of one station.")
 def proposed(talk: Talk, tally: Tally) -> None:
     """The MAC that is asked for where the ENode provides it itself."""
     for it, _ in sent(talk, "FLOGI", "FDISC"):
         mac = mac_in(it.heard)
-        if mac is not None and it.heard.flags & SP:
+        if mac is not None and it.heard.flags & SP and not it.heard.flags & FP:
             tally.judge(it, want("MAC descriptor", colons(mac), "a MAC of one station, which isn't 0", any(mac) and not mac[0] & 1))
 
 
