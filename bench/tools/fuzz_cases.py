@@ -20,6 +20,7 @@ from fcoe.frames.captures import classic as read_classic  # pylint: disable=wron
 from fcoe.frames.heard import fc_check  # pylint: disable=wrong-import-position
 
 DEMO = TOP / "demo"
+ANYTHING = (None, 0, -1, 10**30, 1.5, "x", "\x1b[5m", "\ud800", [], {}, ["a"], [["a"]], {"a": 1}, True)  # that JSON can say
 Wire = tuple[int, bytes]  # a moment in nanoseconds, and a frame
 A, B = "20:00:00:1b:21:00:00:0a", "20:00:00:1b:21:00:00:0b"
 # what makes a terminal do something; none is a sequence that a tool means itself
@@ -157,7 +158,7 @@ def bent_frame(rng: random.Random, data: bytes) -> bytes:
     if tail:
         body += bytes(-len(body[14:]) % 4)
     if rng.random() < 0.1:
-        body = body.replace(b"Linux", rng.choice(ESCAPES).encode("utf-8", "surrogatepass")[:5].ljust(5, b"x"))
+        body = body.replace(b"fcoe v0", rng.choice(ESCAPES).encode("utf-8", "surrogatepass")[:7].ljust(7, b"x"))
     return sealed(data[:head] + body + data[end:])
 
 
@@ -199,18 +200,18 @@ def option(order: str, code: int, value: bytes) -> bytes:
 def pcapng(rng: random.Random, frames: list[Wire]) -> bytes:
     """A pcapng file: either order, one interface or several, with any name, resolution and offset."""
     order, count = rng.choice("<<<>"), rng.choice((1,) * 12 + (2, 2, 3, 70))
-    made = block(order, 0x0A0D0D0A, struct.pack(order + "IHHq", 0x1A2B3C4D, 1, 0, -1))
+    made = [block(order, 0x0A0D0D0A, struct.pack(order + "IHHq", 0x1A2B3C4D, 1, 0, -1))]
     resolution = rng.choice((9,) * 12 + (6, 6, 6, 3, 0, 20, 127, 128 + 30, 255))
     for at in range(count):
         name = rng.choice((f"eth{at}", f"eth{at}{rng.choice(ESCAPES)}", "")).encode("utf-8", "surrogatepass")
         more = option(order, 14, struct.pack(order + "q", rng.choice((2**40, -(2**40), 2**62, 5)))) if rng.random() < 0.05 else b""
-        made += block(order, 1, struct.pack(order + "HHI", rng.choice((1, 1, 1, 1, 1, 113)) if rng.random() < 0.1 else 1, 0, 0) + option(order, 2, name) + option(order, 9, bytes([resolution])) + more + option(order, 0, b""))
+        made.append(block(order, 1, struct.pack(order + "HHI", rng.choice((1, 1, 1, 1, 1, 113)) if rng.random() < 0.1 else 1, 0, 0) + option(order, 2, name) + option(order, 9, bytes([resolution])) + more + option(order, 0, b"")))
     for moment, data in frames:
         ticks = moment // 1000 if resolution == 6 else moment
-        made += block(order, 6, struct.pack(order + "IIIII", rng.randrange(count), ticks >> 32 & 0xFFFFFFFF, ticks & 0xFFFFFFFF, len(data), len(data)) + data)
+        made.append(block(order, 6, struct.pack(order + "IIIII", rng.randrange(count), ticks >> 32 & 0xFFFFFFFF, ticks & 0xFFFFFFFF, len(data), len(data)) + data))
         if rng.random() < 0.02:
-            made += block(order, rng.choice((3, 2, 4, 5, 0x0BAD)), bent(rng, data))
-    return made
+            made.append(block(order, rng.choice((3, 2, 4, 5, 0x0BAD)), bent(rng, data)))
+    return b"".join(made)
 
 
 def program_packed(program: str, data: bytes) -> bytes:
@@ -290,6 +291,8 @@ class Maker:
         words = [command, *own, *self.options(rng, files), *names]
         if command == "whatif":
             words += ["--planned", self.zoning_file(rng, files)]
+        if command == "check" and rng.random() < 0.4:
+            words += ["--baseline", self.told_file(rng, files)] if rng.random() < 0.5 else ["--waivers", self.waivers_file(rng, files)]
         return Case("look", words, files)
 
     def options(self, rng: random.Random, files: dict[str, bytes]) -> list[str]:
@@ -333,6 +336,20 @@ class Maker:
         files[name] = bent_text(rng, data) if rng.random() < 0.5 else data
         return name
 
+    def told_file(self, rng: random.Random, files: dict[str, bytes]) -> str:
+        """A report of `look check`, whose fields may be anything."""
+        row: dict[str, object] = {"who": "ENode", "host": "00:1b:21:00:00:0a", "rule": "alive-enode-period", "port": 1, "state": "broken", "broken": [{"frame": 1, "field": "f", "stands": "s", "should": "t"}]}
+        for name in rng.sample(list(row), rng.choice((0, 0, 1, 2))):
+            row[name] = rng.choice(ANYTHING)
+        files["b.json"] = text = json.dumps({"rules": [row] * 2, "counts": rng.choice(ANYTHING)}).encode()
+        if rng.random() < 0.3:
+            files["b.json"] = rng.choice((bent(rng, text), bent(rng, text), b"[" * 50_000, b'{"rules": 7}', b'{"rules": [7]}', b""))
+        return "b.json"
+
+    def waivers_file(self, rng: random.Random, files: dict[str, bytes]) -> str:
+        files["w.txt"] = bent_text(rng, b"# known\nalive-enode-period 2099-01-31 our driver\nct-size 2020-02-29 a reason\n")
+        return "w.txt"
+
     def zones(self, rng: random.Random) -> Case:
         """`zones`, and the commands of `look` on zonings alone."""
         files: dict[str, bytes] = {}
@@ -375,13 +392,17 @@ class Maker:
         files = self.run_files(rng)
         said: dict[str, object] = {"interfaces": ["port1", "port2"], "begun": 1, "ended": 2, "status": 0, "line": "frames 1 entries 1"}
         for name in rng.sample(list(said), rng.choice((0, 0, 1, 2))):
-            said[name] = rng.choice((None, 0, -1, 10**30, 1.5, "x", "\x1b[5m", "\ud800", [], {}, ["a"], ["p"] * 100, [["a"]], True, [rng.choice(ESCAPES)] * 2))
+            said[name] = rng.choice((*ANYTHING, ["p"] * 100, [rng.choice(ESCAPES)] * 2))
         text = json.dumps(said).encode()
         files["session.json"] = rng.choice((text, text, text, text, bent(rng, text), b"[" * 50_000, b"", b"7"))
         for name in rng.sample(list(files), rng.choice((0, 0, 0, 1))):
             del files[name]
         files = {f"s/{name}": data for name, data in files.items()}
-        command = rng.choice(("", "--json", "answers", "frames --csv", "why 1 1", f"why 1 {rng.choice(NUMBERS)}", "names", "check")).split()
+        if rng.random() < 0.2:
+            for name in rng.sample(list(files), rng.choice((0, 1, 2))):
+                files[name] = files[name][: rng.randrange(len(files[name]) + 1)]
+            return Case("look", ["trim", rng.choice(("s", "s", "s/", "."))], files)
+        command = rng.choice(("", "--json", "answers", "frames --csv", "why 1 1", f"why 1 {rng.choice(NUMBERS)}", "names", "check", "exchanges --json")).split()
         return Case("look", ["--session", "s", *command], files)
 
     def bound(self, rng: random.Random) -> Case:

@@ -30,7 +30,7 @@ Ran = subprocess.CompletedProcess[str]
 def run(folder: pathlib.Path, tool: str, *words: str, **more: Any) -> Ran:
     """A tool in a folder; its streams as text, whatever they are."""
     env = {**os.environ, **more.pop("env", {})}
-    return subprocess.run([TOP / "tools" / tool, *words], cwd=folder, stdin=subprocess.DEVNULL, capture_output=True, encoding="latin-1", env=env, timeout=120, check=False, **more)
+    return subprocess.run([TOP / "tools" / tool, *words], cwd=folder, stdin=subprocess.DEVNULL, capture_output=True, encoding="latin-1", env=env, timeout=600, check=False, **more)
 
 
 def is_clean(ran: Ran) -> bool:
@@ -52,6 +52,7 @@ ZONINGS: dict[str, tuple[bytes, int, str]] = {
     "aliases in a ring": (RING, 2, "has itself as a member by way of b, c"),
     "aliases too deep": (CHAIN, 2, "stands in 50 others"),
     "aliases that double": (DEEP, 0, ""),
+    "a domain in hexadecimal": (b"zone name a vsan 1\n  member domain-id ab port-number 1\n", 2, ""),
     "control signs": (b"zone name a vsan 1\n  bogus \xc2\x9b5m\x1b]0;x\n", 2, "\\x9b5m\\x1b]0;x"),
     "UTF-16 with halves": (b"\xff\xfe" + b"z\0\x00\xd8", 2, ""),
 }
@@ -174,21 +175,46 @@ def test_a_file_is_whole_or_as_it_was(tmp_path: pathlib.Path) -> None:
 def test_what_comes_is_counted_in_any_pieces() -> None:
     frames = [(it, bytes(it)) for it in range(50)]
     packed = block("<", 0x0A0D0D0A, struct.pack("<IHHq", 0x1A2B3C4D, 1, 0, -1)) + block("<", 6, bytes(40)) * 3
-    for data, expected in ((classic(frames), 50), (classic(frames, ">"), 50), (packed, 4), (b"x" * 500, 0)):
-        for size in (13, 24, 100, 10_000):
+    for data, expected in ((classic(frames), 50), (classic(frames, ">"), 50), (packed, 4)):
+        for size in (1, 13, 24, 100, 10_000):
             count = limits.Count("it")
             for at in range(0, len(data), size):
                 count.take(data[at : at + size])
-            assert count.frames in (expected, 0 if size == 13 else expected), (expected, size)
+            assert count.frames == expected and count.bytes <= sum(range(50)), (expected, size)
+
+
+def test_what_is_no_capture_ends_at_once(tmp_path: pathlib.Path) -> None:
+    """Devices and streams that never end, and what is packed and is none."""
+    (tmp_path / "c.gz").write_bytes(gzip.compress(bytes(100 << 20), 1))
+    for words, said in (("look /dev/zero", "a device"), ("look - </dev/zero", "no capture"), ("yes | {}look -", "no capture"), ("look c.gz", "no capture")):
+        line = words.format(f"{TOP}/tools/") if "{}" in words else f"{TOP}/tools/{words}"
+        ran = subprocess.run(["bash", "-c", line], cwd=tmp_path, capture_output=True, text=True, check=False, timeout=120)
+        assert ran.returncode == 2 and said in ran.stderr and ran.stderr.count("\n") == 1, ran.stderr
+
+
+def test_more_bytes_than_run_takes_are_told(monkeypatch: pytest.MonkeyPatch) -> None:
+    monkeypatch.setattr(limits, "MOST_BYTES", 1000)
+    with pytest.raises(Refused, match="limit bytes 1000"):
+        limits.Count("it").take(classic([(0, bytes(700))] * 3))
 
 
 # ---- how tools end
 
 
-@pytest.mark.parametrize("line", ["look {} >/dev/full", "look {} >&-", "look --help >/dev/full", "load --help >&-", "look - <&-", "look {} <&- >&- 2>&-", "zones --from {} >&-"])
+@pytest.mark.parametrize("line", ["look {} >/dev/full", "look nosuch 2>/dev/full", "look {} >&-", "look --help >/dev/full", "load --help >&-", "look - <&-", "look {} <&- >&- 2>&-", "zones --from {} >&-"])
 def test_streams_that_are_closed_or_full(line: str, tmp_path: pathlib.Path) -> None:
     ran = subprocess.run(["bash", "-c", f"{TOP}/tools/{line.format(INITIATOR)}"], cwd=tmp_path, capture_output=True, text=True, check=False)
     assert ran.returncode == 2 and "Traceback" not in ran.stderr and ran.stderr.count("\n") <= 12, ran.stderr
+
+
+BASELINES = {b"[" * 100_000: "nested too deep", b'{"rules": 7}': "has no list", b'{"rules": [{}]}': "has no list", b'{"rules": [{"who": [], "host": {}, "rule": 7, "port": "x", "state": []}]}': "has no list", b"7": "has no list", b"\xff": "no JSON"}
+
+
+@pytest.mark.parametrize("text", BASELINES)
+def test_earlier_reports_that_are_none(text: bytes, tmp_path: pathlib.Path) -> None:
+    (tmp_path / "b.json").write_bytes(text)
+    ran = run(tmp_path, "look", "check", "--baseline", "b.json", INITIATOR)
+    assert is_clean(ran) and ran.returncode == 2 and BASELINES[text] in ran.stderr, ran.stderr
 
 
 def test_a_fault_of_a_tool_is_a_line(tmp_path: pathlib.Path) -> None:
@@ -207,6 +233,10 @@ def test_a_fault_of_a_tool_is_a_line(tmp_path: pathlib.Path) -> None:
 def test_another_program_than_ours(program: str, tmp_path: pathlib.Path) -> None:
     ran = run(tmp_path, "look", INITIATOR, env={"FCOE_TOOL": program})
     assert is_clean(ran) and ran.returncode == 2, ran.stderr
+    for words in (f"replay --config C --journal C {INITIATOR} {TARGET}", f"show --config C --journal C {INITIATOR}"):
+        (tmp_path / "C").write_bytes((TOP / "demo/fabric.conf").read_bytes())
+        ran = run(tmp_path, "look", *words.split(), env={"FCOE_TOOL": program})
+        assert is_clean(ran) and ran.returncode == 2, (words, ran.stderr)
 
 
 @pytest.mark.parametrize("text", [b"def (:", b"1/0", b"raise SystemExit(3)", b"SCENES = 3"])
@@ -262,12 +292,14 @@ def test_journals_that_were_changed(name: str, session: pathlib.Path) -> None:
         assert is_clean(ran) and (ran.returncode == 2 or "isn't there" in name), ran.stderr[-500:]
 
 
-def test_files_of_a_session_that_are_none(session: pathlib.Path) -> None:
+@pytest.mark.parametrize("name", ["journal", "in1.pcap", "fabric.conf", "session.json"])
+def test_files_of_a_session_that_are_none(name: str, session: pathlib.Path) -> None:
     """A FIFO would be waited for."""
-    for name in ("journal", "in1.pcap", "session.json"):
-        (session / name).unlink()
-        os.mkfifo(session / name)
-        assert run(session.parent, "look", "--session", "s").returncode == 2
+    (session / name).unlink()
+    os.mkfifo(session / name)
+    for words in ("--session s", "--session s names", "trim s"):
+        assert run(session.parent, "look", *words.split()).returncode == 2, words
+    assert not (session.parent / "s.whole").exists()
 
 
 def test_a_window_of_nothing_and_a_capture_of_nothing(session: pathlib.Path) -> None:

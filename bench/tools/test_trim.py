@@ -21,6 +21,21 @@ def recording(folder: pathlib.Path, program: str) -> None:
     (folder / "session.json").write_text(json.dumps({"interfaces": ["a", "b"], "begun": 1}), encoding="ascii")
 
 
+@pytest.mark.parametrize("name", ["nothing", "half a line", "format 1"])
+def test_journals_that_begin_otherwise(name: str, program: str, tmp_path: pathlib.Path) -> None:
+    """Without a whole line there is nothing; a journal of format 1 has no line before its entries."""
+    folder = tmp_path / "s"
+    recording(folder, program)
+    lines = (folder / "journal").read_text().splitlines()[1:]
+    one = "".join(f"tick {it.replace(' tick', '', 1)}\n" if " tick" in it else f"{it.partition(' ')[2]}\n" for it in lines)
+    (folder / "journal").write_text({"nothing": "", "half a line": "journ", "format 1": one}[name])
+    ran = subprocess.run([sys.executable, TOOLS / "look", "trim", str(folder)], capture_output=True, text=True, check=False)
+    if name == "format 1":
+        assert ran.returncode == 0 and f"{len(lines)} entries are whole, 0 left out" in ran.stdout, ran.stderr
+    else:
+        assert ran.returncode == 2 and "nothing of this recording is whole" in ran.stderr and not (tmp_path / "s.whole").exists()
+
+
 @pytest.mark.parametrize("seed", range(8))
 def test_a_recording_that_was_cut(seed: int, program: str, tmp_path: pathlib.Path) -> None:
     rng = random.Random(seed)

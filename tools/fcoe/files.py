@@ -1,11 +1,12 @@
 """Files of the user: opened by their kind, read up to a bound, and written whole or not at all."""
 import contextlib
 import errno
+import json
 import os
 import pathlib
 import stat
 import tempfile
-from typing import BinaryIO, Iterator, Union
+from typing import Any, BinaryIO, Iterable, Iterator, Union
 
 from .errors import Refused
 from .printing import visible
@@ -31,6 +32,12 @@ def opened(name: Name) -> BinaryIO:
     return os.fdopen(plain(name), "rb")
 
 
+def check_plain(names: Iterable[Name]) -> None:
+    """Refuses what isn't plain of files that a folder should have."""
+    for name in names:
+        os.close(plain(name))
+
+
 def bytes_of(name: Name, most: int = TEXT, is_plain: bool = False) -> bytes:
     """What a file has, also one that is a pipe."""
     with opened(name) if is_plain else open(name, "rb") as file:
@@ -43,6 +50,14 @@ def bytes_of(name: Name, most: int = TEXT, is_plain: bool = False) -> bytes:
 def text_of(name: Name) -> str:
     """The text of a configuration, whose lines may end as anywhere."""
     return bytes_of(name).decode("latin-1").replace("\r\n", "\n").replace("\r", "\n")
+
+
+def json_of(name: Name, most: int = TEXT, is_plain: bool = False) -> Any:
+    """The value of a file of JSON; ValueError where it's none."""
+    try:
+        return json.loads(bytes_of(name, most, is_plain))
+    except RecursionError:
+        raise Refused(f"{name}: its JSON is nested too deep: name another file") from None
 
 
 def lines_of(name: Name) -> Iterator[bytes]:

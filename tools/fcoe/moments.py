@@ -5,11 +5,12 @@ from datetime import datetime, timedelta, timezone
 from typing import Optional
 
 from .errors import Refused
-from .numerals import shortened, wanted
+from .numerals import seconds, shortened, wanted
 
 DAY = 86_400_000
 FIRST_DATE, LAST_DATE = 10**11, 253_402_300_799_999  # milliseconds: before is a capture that was made, not recorded; behind is no date
 SECONDS = re.compile(r"[0-9]{1,9}|[0-9]{0,9}\.[0-9]{1,9}")
+DIGITS = re.compile(r"[0-9]+")
 BEHIND = re.compile(r"\+([0-9]{1,12}(?:\.[0-9]{1,9})?)")
 
 
@@ -36,7 +37,7 @@ class Part:
 
     def clock(self, option: str, word: str, first: int) -> float:
         if SECONDS.fullmatch(word):
-            return first + 1000 * float(word)
+            return first + 1000 * seconds(word)
         return moment_of(word, first, option)
 
     def within(self, first: int) -> tuple[float, float]:
@@ -48,8 +49,8 @@ class Part:
 def moment_of(word: str, first: int, option: str = "--at") -> int:
     """Milliseconds since 1970, of a word: `+S` seconds behind the first frame, a date and time, a time of its day, or milliseconds."""
     if behind := BEHIND.fullmatch(word):
-        return first + int(float(behind[1]) * 1000)
-    if word.isdecimal():
+        return first + int(seconds(behind[1]) * 1000)
+    if DIGITS.fullmatch(word):
         return wanted(word, option, 0, LAST_DATE)
     text = word.replace("T", " ").rstrip("Z")
     if re.fullmatch(r"[0-9]{2}:[0-9]{2}:[0-9]{2}(\.[0-9]{1,9})?", text):

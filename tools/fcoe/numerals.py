@@ -6,6 +6,7 @@ from .errors import Refused
 
 MOST = (1 << 63) - 1
 DECIMAL = re.compile(r"[0-9]{1,19}")
+HEXADECIMAL = re.compile(r"[0-9A-Fa-f]{1,16}")
 FRACTION = re.compile(r"[0-9]{0,12}(?:\.[0-9]{0,12})?")
 
 
@@ -15,6 +16,21 @@ def whole(word: str, least: int = 0, most: int = MOST) -> Optional[int]:
         return None
     found = int(word)
     return found if least <= found <= most else None
+
+
+def told(word: str, least: int = 0, most: int = MOST) -> int:
+    """The number of a word of a file; ValueError where it isn't one between the bounds."""
+    found = whole(word, least, most)
+    if found is None:
+        raise ValueError(word)
+    return found
+
+
+def hexadecimal(word: str) -> int:
+    """The number of hexadecimal digits; ValueError where they are none."""
+    if not HEXADECIMAL.fullmatch(word):
+        raise ValueError(word)
+    return int(word, 16)
 
 
 def wanted(word: str, what: str, least: int, most: int) -> int:

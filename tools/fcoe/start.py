@@ -109,13 +109,14 @@ def unexpected(_: type[BaseException], why: BaseException, __: Optional[Tracebac
 
 
 def leave(status: int) -> NoReturn:
-    """Ends the process; what standard output still holds was told of, or is for nobody."""
+    """Ends the process; what the standard streams still hold was told of, or is for nobody."""
     PROGRESS.clear()
-    try:
-        sys.stdout.flush()
-    except OSError:
-        os.dup2(os.open(os.devnull, os.O_WRONLY), 1)
-        sys.stdout = Mute()  # type: ignore[assignment]
+    for number, name in ((1, "stdout"), (2, "stderr")):
+        try:
+            getattr(sys, name).flush()
+        except OSError:
+            os.dup2(os.open(os.devnull, os.O_WRONLY), number)
+            setattr(sys, name, Mute())
     sys.exit(status)
 
 

@@ -1,11 +1,10 @@
 """What is known and accepted for a while: a file of waivers, and an earlier report that a new one is compared with."""
-import json
 import time
 from dataclasses import dataclass
-from typing import Any, Iterable
+from typing import Any, Iterable, Mapping
 
 from .errors import Refused
-from .files import text_of
+from .files import json_of, text_of
 
 FORM = "wants `RULE UNTIL REASON`, as `alive-enode-period 2027-01-31 our driver, mended in its next version`"
 
@@ -49,13 +48,13 @@ def today() -> str:
     return time.strftime("%Y-%m-%d", time.gmtime())
 
 
-def read_baseline(name: str, key: str) -> list[dict[str, Any]]:
-    """The rows of an earlier report that was written with --json."""
+def read_baseline(name: str, key: str, kinds: Mapping[str, type]) -> list[dict[str, Any]]:
+    """The rows of an earlier report that was written with --json, each of which has these fields."""
     try:
-        said = json.loads(text_of(name))
+        said = json_of(name)
     except ValueError as why:
         raise Refused(f"{name}: no JSON ({why}): write a baseline with --json") from why
     rows = said.get(key) if isinstance(said, dict) else None
-    if not isinstance(rows, list) or not all(isinstance(it, dict) for it in rows):
-        raise Refused(f"{name}: has no list `{key}`: write a baseline with --json of this command")
+    if not isinstance(rows, list) or not all(isinstance(it, dict) and all(isinstance(it.get(field), kind) for field, kind in kinds.items()) for it in rows):
+        raise Refused(f"{name}: has no list `{key}` as this command writes it: write a baseline with --json of this command")
     return rows

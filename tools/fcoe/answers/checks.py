@@ -4,6 +4,7 @@ from dataclasses import dataclass
 from typing import Any
 
 from ..errors import FOUND, Refused
+from ..numerals import told, whole
 from ..runs.fabric import types_of
 from ..runs.looking import Look
 from ..runs.program import say
@@ -20,7 +21,7 @@ def login_of(words: list[str]) -> Said:
     row: Said = dict(zip(NAMED["login"], words))
     for name in ("wwpn", "wwnn", "enode"):
         row[name] = bytes.fromhex(row[name]).hex(":")
-    return {**row, **{it: int(row[it]) for it in NUMBERS}, "types": [], "map": bytes(32).hex()}
+    return {**row, **{it: told(row[it]) for it in NUMBERS}, "types": [], "map": bytes(32).hex()}
 
 
 def shown(lines: list[str]) -> Said:
@@ -29,7 +30,7 @@ def shown(lines: list[str]) -> Said:
     for line in lines:
         word, *rest = line.split()
         if word in ("entries", "clock"):
-            found[word] = int(rest[0])
+            found[word] = told(rest[0])
         elif word == "login":
             found["logins"].append(login_of(rest))
         elif word == "types":
@@ -41,8 +42,19 @@ def shown(lines: list[str]) -> Said:
 def fault_of(printed: str) -> Said:
     """The fault that a line tells: of what, where, and why."""
     word, *rest = printed.split()
-    at = [int(it) for it in rest if it.isdigit()]
+    at = [it for it in map(whole, rest) if it is not None]
     return {"fault": word, "at": at, "why": " ".join(rest[len(at) :]) or None}
+
+
+def said_of(command: str, lines: list[str]) -> Said:
+    """What the lines of a run without a fault say; ValueError where they aren't that program's."""
+    try:
+        word, number, *_ = lines[0].split()
+        if word != ("entries" if command == "show" else "legal"):
+            raise ValueError(word)
+        return shown(lines) if command == "show" else {"entries": told(number)}
+    except (IndexError, KeyError, StopIteration):
+        raise ValueError from None
 
 
 @dataclass
@@ -64,11 +76,14 @@ def called(program: str, command: str, files: list[str]) -> Called:
     printed = lines[0] if lines else ""
     said: Said = {"command": command, "status": ran.returncode, "printed": printed}
     if ran.returncode == 0:
-        return Called(0, lines, {**said, **(shown(lines) if command == "show" else {"entries": int(printed.split()[1])})})
-    if ran.returncode == FOUND and printed:
+        try:
+            return Called(0, lines, {**said, **said_of(command, lines)})
+        except ValueError:
+            raise Refused(f"{program}: prints what `{command}` of fcoe_tool doesn't: build one by tools/install, and name that") from None
+    if ran.returncode == FOUND and len(lines) == 1:
         return Called(FOUND, lines, {**said, **fault_of(printed)})
-    told = (ran.stderr.strip().splitlines() or [printed])[-1]
-    raise Refused(f"`fcoe_tool {command}` ended with status {ran.returncode} ({told}): docs/COMMANDS.md has what that means")
+    last = (ran.stderr.strip().splitlines() or [printed])[-1]
+    raise Refused(f"`fcoe_tool {command}` ended with status {ran.returncode} ({last}): docs/COMMANDS.md has what that means")
 
 
 def is_amiss(look: Look) -> bool:

@@ -157,17 +157,20 @@ def waiver_row(waiver: Optional[Waiver]) -> Optional[Row]:
     return {"until": waiver.until, "reason": waiver.reason} if waiver else None
 
 
+KEPT = {"who": str, "host": str, "rule": str, "port": int, "state": str}  # what of an earlier report is read
+
+
 def key_of(row: Row) -> tuple[str, str, str, int]:
     """What a rule's row in two reports have in common."""
-    return row.get("who", ""), row.get("host", ""), row.get("rule", ""), row.get("port", 0)
+    return row["who"], row["host"], row["rule"], row["port"]
 
 
 def changes(found: Checked, before: list[Row]) -> list[Row]:
     """The rules whose state is another than in an earlier report; one that isn't there counts as not seen."""
-    was = {key_of(it): it.get("state", UNSEEN) for it in before}
+    was = {key_of(it): it["state"] for it in before}
     rows = as_data(found)["rules"]
     now = {key_of(it) for it in rows}
-    gone = [{**it, "was": it.get("state"), "state": UNSEEN} for it in before if key_of(it) not in now and it.get("state") != UNSEEN]
+    gone = [{**it, "was": it["state"], "state": UNSEEN, "broken": []} for it in before if key_of(it) not in now and it["state"] != UNSEEN]
     return [{**it, "was": was.get(key_of(it), UNSEEN)} for it in rows if it["state"] != was.get(key_of(it), UNSEEN)] + gone
 
 

@@ -74,17 +74,17 @@ def own_address(talk: Talk, tally: Tally) -> None:
 @RULES.rule("register-node-name", "FC-GS-6, RSNN_NN", "A symbolic node name is of a node name that is registered.", is_choice=True)
 def node_name(talk: Talk, tally: Tally) -> None:
     """The node name of RSNN_NN is registered: by RNN_ID, or by the login to the name server."""
-    for it, fc, rest in requests(talk, 0x0239):
-        known: dict[bytes, Shown] = {}
-        for one, other in talk.in_fcoe():
-            if one.at >= it.at or other.s_id != fc.s_id:
-                continue
-            if one.heard.kind == "PLOGI" and len(other.payload) >= 36:
-                known[other.payload[28:36]] = one
-            elif one.heard.kind == "RNN_ID" and len(other.payload) >= PREAMBLE + 12:
-                known[other.payload[PREAMBLE + 4 : PREAMBLE + 12]] = one
-        if known:
-            tally.usual(it, want("node name", rest[:8].hex(), f"{' or '.join(it.hex() for it in known)}, as registered", rest[:8] in known))
+    asked = {it.at: rest for it, _, rest in requests(talk, 0x0239)}
+    registered: dict[int, dict[bytes, None]] = {}  # by address, in their order
+    for it, fc in talk.in_fcoe():
+        known, payload = registered.setdefault(fc.s_id, {}), fc.payload
+        if it.heard.kind == "PLOGI" and len(payload) >= 36:
+            known[payload[28:36]] = None
+        elif it.heard.kind == "RNN_ID" and len(payload) >= PREAMBLE + 12:
+            known[payload[PREAMBLE + 4 : PREAMBLE + 12]] = None
+        elif known and it.at in asked:
+            name = asked[it.at][:8]
+            tally.usual(it, want("node name", name.hex(), f"{' or '.join(it.hex() for it in known)}, as registered", name in known))
 
 
 def types(rest: bytes) -> set[int]:
@@ -94,10 +94,13 @@ def types(rest: bytes) -> set[int]:
 
 @RULES.rule("register-order", "FC-GS-6, RFT_ID and RFF_ID", "Features are registered after their FC-4 type.", is_choice=True)
 def features_behind_types(talk: Talk, tally: Tally) -> None:
-    for it, fc, rest in requests(talk, 0x021F):
-        told = [types(more) for one, other, more in requests(talk, 0x0217) if one.at < it.at and other.s_id == fc.s_id and len(more) >= 36]
-        if len(rest) >= 8:
-            tally.usual(it, want("FC-4 type of RFF_ID", f"{rest[7]:02x}", "one that RFT_ID registered before", any(rest[7] in some for some in told)))
+    told: dict[int, set[int]] = {}  # by address
+    for it, fc, rest in requests(talk, 0x0217, 0x021F):
+        registered = told.setdefault(fc.s_id, set())
+        if fc.command == 0x0217 and len(rest) >= 36:
+            registered |= types(rest)
+        elif fc.command == 0x021F and len(rest) >= 8:
+            tally.usual(it, want("FC-4 type of RFF_ID", f"{rest[7]:02x}", "one that RFT_ID registered before", rest[7] in registered))
 
 
 @RULES.rule("register-types", "FC-GS-6, RFT_ID; FC-LS-2, PRLI", "The FC-4 types that are used are registered.", is_choice=True)

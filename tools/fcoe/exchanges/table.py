@@ -1,12 +1,12 @@
 """The exchange table: a row an exchange, and sums with times; for a terminal, as JSON and as CSV."""
 import csv
 import heapq
-import json
 from typing import Any, Iterator, Optional, TextIO
 
 from ..frames.columns import MILLISECOND
 from ..frames.heard import colons, fcid
 from ..moments import stamp
+from ..printing import as_json
 from .exchange import End, Exchange
 from .reading import place_text
 from .statistics import Group, Statistics, Sum
@@ -185,9 +185,9 @@ class Rows:
         elif self.csv is not None:
             self.csv.writerow(row_of(it, names))
         elif self.form == "jsonl":
-            self.out.write(json.dumps(row_of(it, names), ensure_ascii=False) + "\n")
+            self.out.write(as_json(row_of(it, names)) + "\n")
         else:
-            self.out.write((",\n  " if self.count > 1 else '{"exchanges": [\n  ') + json.dumps(row_of(it, names), ensure_ascii=False))
+            self.out.write((",\n  " if self.count > 1 else '{"exchanges": [\n  ') + as_json(row_of(it, names)))
 
     def end(self, statistics: Statistics, names: dict[int, bytes]) -> None:
         """What waits, and the sums behind it; CSV and JSON lines have rows alone."""
@@ -196,5 +196,5 @@ class Rows:
         if self.form == "text":
             self.out.write("\n" + "\n".join(sum_lines(statistics, names)) + "\n")
         elif self.form == "json":
-            sums = ",\n  ".join(json.dumps(sum_row(*it, names), ensure_ascii=False) for it in statistics.ranked())
+            sums = ",\n  ".join(as_json(sum_row(*it, names)) for it in statistics.ranked())
             self.out.write(("\n" if self.count else '{"exchanges": [') + f'],\n "sums": [\n  {sums}\n]}}\n')

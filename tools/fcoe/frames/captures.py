@@ -11,11 +11,11 @@ from typing import Iterable, Iterator, Optional, Sequence
 from ..errors import Refused
 from . import pcapng
 from .columns import LAST, PIECE, SCANNED, Frames, Record, Row, Source
+from .limits import MODIFIED, no_capture
 from .spool import spooled, unpacked
 
 # magic: byte order, and nanoseconds of a fraction's unit
 ORDERS = {b"\xd4\xc3\xb2\xa1": ("<", 1000), b"\xa1\xb2\xc3\xd4": (">", 1000), b"\x4d\x3c\xb2\xa1": ("<", 1), b"\xa1\xb2\x3c\x4d": (">", 1)}
-MODIFIED = (b"\x34\xcd\xb2\xa1", b"\xa1\xb2\xcd\x34")  # captures of an old patched libpcap, which editcap reads
 COOKED = {113: "captured with `-i any`", 276: "captured with `-i any`"}
 HEAD = struct.pack("<IHHiIII", 0xA1B23C4D, 2, 4, 0, 0, 262144, 1)  # of a classic capture with nanoseconds
 HINT = "apt-get install tshark"
@@ -174,13 +174,9 @@ def read_capture(name: str, room: str) -> Capture:
             raise Refused(f"{name}: editcap can't read it: {last_line(ran)}")
         found = classic(there, name)
     else:
-        raise Refused(no_capture(name, magic))
+        raise no_capture(name, magic)
     found.file = whole
     return found
-
-
-def no_capture(name: str, magic: bytes) -> str:
-    return f"{name}: no capture (it begins with {magic.hex()}): save it as pcap or pcapng, for example with `tshark -r FILE -w OUT.pcapng`"
 
 
 def same_file(one: str, other: str) -> bool:

@@ -57,7 +57,7 @@ class Patience:
 
 def copy_to(there: str, come: BinaryIO, shown: str) -> None:
     """Spools what comes, up to the end of its writer."""
-    count = Count(shown)
+    count = Count(shown, (*PACKERS, *PROGRAMS))
     with open(there, "wb") as file, Patience() as patience:
         while piece := patience.read(come.fileno()):
             count.take(piece)
@@ -74,6 +74,8 @@ def spooled(name: str, room: str) -> str:
             raise Refused("-: standard input is a terminal: pipe a capture into it, `tcpdump -i eth0 -s 0 -w - | look -`")
     elif not os.path.exists(name) or stat.S_ISREG(os.stat(name).st_mode):
         return name
+    elif stat.S_ISCHR(os.stat(name).st_mode) or stat.S_ISBLK(os.stat(name).st_mode):
+        raise Refused(f"{name}: a device: save what comes from it as a capture, and name that")
     there = os.path.join(room, f"spooled{len(os.listdir(room))}")
     if name == "-":
         copy_to(there, sys.stdin.buffer, "standard input")

@@ -8,7 +8,7 @@ from dataclasses import asdict, dataclass, field
 from typing import IO, Any, Optional
 
 from ..errors import Refused
-from ..files import bytes_of, opened
+from ..files import json_of, opened
 from ..numerals import MOST
 
 MOST_PORTS, MOST_TOLD = 64, 1 << 20  # ports, and bytes of session.json
@@ -112,9 +112,7 @@ def told_of(folder: Folder) -> Told:
     if not folder.told.is_file():
         raise Refused(f"{folder.path}: no session of `live`: name the folder that --record named")
     try:
-        return told_in(folder, json.loads(bytes_of(folder.told, MOST_TOLD, is_plain=True)))
-    except RecursionError:
-        return told_in(folder, None)
+        return told_in(folder, json_of(folder.told, MOST_TOLD, is_plain=True))
     except ValueError:  # `live` was ended while it wrote
         ports = len([it for it in os.listdir(folder.path) if it.startswith("in") and it.endswith(".pcap")])
         return Told([f"port {it}" for it in range(1, ports + 1)])

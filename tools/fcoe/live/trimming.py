@@ -7,7 +7,7 @@ import shutil
 from typing import Sequence
 
 from ..errors import Refused
-from ..files import opened
+from ..files import check_plain, opened
 from ..frames.captures import classic
 from ..frames.columns import Frames
 from ..printing import say
@@ -93,8 +93,8 @@ def run_of(folder: Folder, journal: pathlib.Path, ports: int) -> Run:
 
 
 def write(run: Run, folder: Folder, to: Folder, count: int, ends: list[int]) -> None:
-    """Writes the first entries with what they took and sent."""
-    copied(folder.journal, to.journal, ends[count + 1])
+    """Writes the first entries with what they took and sent; a journal of format 1 has no line before them."""
+    copied(folder.journal, to.journal, ends[count + len(ends) - 1 - len(run.entries)])
     ins, outs = heard(run.entries, count, len(run.ports)), sent(run, count)
     for number, (port, out) in enumerate(zip(run.ports, run.outputs), 1):
         copied(folder.heard(number), to.heard(number), end_of(port.frames, ins[number - 1]))
@@ -109,11 +109,13 @@ def trim(words: list[str]) -> int:
     ports = len(told_of(folder).interfaces)
     if is_running(folder):
         raise Refused(f"{folder.path}: the session runs: it can be trimmed once it has ended")
-    program = program_of(None)
+    check_plain([folder.config, *folder.pairs(ports)])
+    program, ends = program_of(None), line_ends(folder.journal)
+    if len(ends) == 1:
+        raise Refused(f"{folder.journal}: has no whole line: nothing of this recording is whole")
     to.path.mkdir()
     for source, path in ((folder.config, to.config), (folder.told, to.told)):
         shutil.copyfile(source, path)
-    ends = line_ends(folder.journal)
     copied(folder.journal, to.journal, ends[-1])
     run = run_of(folder, to.journal, ports)
     most = whole(run)

@@ -9,7 +9,7 @@ from typing import Any, Iterator, Optional
 from ..answers.texts import table
 from ..errors import Refused
 from ..errors import counted as plural
-from ..files import LINE, opened
+from ..files import LINE, check_plain, opened
 from ..frames.heard import Heard, colons, fcid, hear
 from ..frames.stream import MARK
 from ..moments import short, stamp
@@ -106,6 +106,7 @@ class Watch:
     def __init__(self, folder: Folder) -> None:
         self.folder = folder
         self.told: Told = told_of(folder)
+        check_plain([folder.config])
         self.config = read_config(str(folder.config))
         self.fabric = Fabric(self.config)
         self.journal = Journal(folder.journal)
@@ -248,6 +249,7 @@ def files_of(folder: Folder, words: list[str]) -> list[str]:
     if is_running(folder):
         raise Refused(f"{folder.path}: the session runs: `look --session {folder.path}` tells how it stands, and `look --session {folder.path} {words[0]}` works once it has ended")
     ports = len(told_of(folder).interfaces)
+    check_plain([folder.config, folder.journal, *folder.pairs(ports)])
     return ["--config", str(folder.config), "--journal", str(folder.journal), *words, *folder.pairs(ports)]
 
 

@@ -14,6 +14,7 @@ from ..files import write_whole
 from ..frames.codes import spelled, type_text
 from ..frames.places import text_of
 from ..moments import short, stamp
+from ..numerals import whole
 from ..printing import as_json
 from ..runs.compare import STATES, by_kind, states_in, totals
 from ..runs.journals import counted as rule_of
@@ -104,8 +105,8 @@ def answer_rows(found: Row) -> list[Row]:
 def linker(look: Look, safe: Callable[[str], Any]) -> Callable[[str], Any]:
     """Makes each port/frame of a text that is a frame of these captures lead to its row, and shows words between backquotes as code."""
     def led(found: re.Match[str]) -> str:
-        port, number = int(found[1]), int(found[2])
-        is_there = 0 < port <= len(look.ports) and look.ports[port - 1].frames.at_number(number) is not None
+        port, number = whole(found[1], 1, len(look.ports)), whole(found[2])
+        is_there = port is not None and number is not None and look.ports[port - 1].frames.at_number(number) is not None
         return f'<a class="frame" href="#?at={found[0]}">{found[0]}</a>' if is_there else found[0]
 
     def linked(text: str) -> Any:

@@ -7,7 +7,7 @@ from typing import Iterable, Optional
 from ..errors import Refused, meant
 from ..files import text_of
 from ..frames.heard import ADVERTISE, LOGIN, LOGIN_REPLY, SOLICIT, VLAN_REQUEST, VLAN_TELL, Heard, colons, is_login, login_names, number
-from ..numerals import whole
+from ..numerals import told
 
 
 LONGEST_PERIOD = 90000  # milliseconds, which the forwarder takes
@@ -63,17 +63,11 @@ def octets(word: str, size: Optional[int] = None) -> bytes:
 
 def ranged(word: str, key: str) -> int:
     """The number of a key; ValueError where it's none that the key may have."""
-    found = whole(word, *RANGES[key])
-    if found is None:
-        raise ValueError(word)
-    return found
+    return told(word, *RANGES[key])
 
 
 def activation(words: list[str]) -> tuple[str, int]:
-    moment = whole(words[2], 0, LAST_MOMENT)
-    if moment is None:
-        raise ValueError(words[2])
-    return words[1], moment
+    return words[1], told(words[2], 0, LAST_MOMENT)
 
 
 def read_config(name: str) -> Config:
@@ -208,9 +202,9 @@ def vlan_told(frames: list[Heard]) -> Optional[int]:
 
 def vlan_of(frames: list[Heard], mac: bytes) -> Optional[int]:
     """The VLAN that the switch names, or else that of most frames to and from it, VLAN discovery aside."""
-    told = vlan_told(frames)
-    if told:
-        return told
+    said = vlan_told(frames)
+    if said:
+        return said
     counts: Counter[int] = Counter()
     for it in frames:
         if it.is_fabric and it.operation not in (VLAN_REQUEST, VLAN_TELL) and (mac in (it.source, it.destination) or it.operation == SOLICIT):

@@ -9,7 +9,7 @@ from typing import Callable, Iterator, Optional, Sequence, Union, overload
 
 from ..errors import Refused
 from ..files import lines_of
-from ..numerals import whole
+from ..numerals import told
 from ..progress import PROGRESS
 
 PAGE = pathlib.Path(__file__).resolve().parents[3] / "docs" / "JOURNAL.md"
@@ -133,23 +133,15 @@ class Entries(Sequence[Entry]):
 def entry_of(words: list[str], clock: Optional[int], is_second: bool) -> Entry:
     """The entry of a line's words, in format 2 where is_second, and else in format 1."""
     if is_second:
-        clock, words = told(words[0], LATEST), words[1:]
+        clock, words = told(words[0], 0, LATEST), words[1:]
         if words[0] == "tick":
             return Tick(clock, [address_of(it) for it in words[1:]])
     elif words[0] == "tick":
-        return Tick(told(words[1], LATEST), [address_of(it) for it in words[2:]])
+        return Tick(told(words[1], 0, LATEST), [address_of(it) for it in words[2:]])
     verdict = " ".join(words[2:])
     if clock is None or not verdicts().fullmatch(verdict):
         raise ValueError
-    return Frame(clock, told(words[0], MOST_PORTS), told(words[1], LAST_INDEX), verdict)
-
-
-def told(word: str, most: int) -> int:
-    """A number of a line; ValueError where it's none."""
-    found = whole(word, 0, most)
-    if found is None:
-        raise ValueError(word)
-    return found
+    return Frame(clock, told(words[0], 0, MOST_PORTS), told(words[1], 0, LAST_INDEX), verdict)
 
 
 def address_of(word: str) -> int:

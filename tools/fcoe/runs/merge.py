@@ -9,6 +9,7 @@ from ..frames.captures import called, last_line, refuse_inputs, write_classic
 from ..frames.columns import Record
 from ..frames.heard import hear
 from ..frames.spool import unpacked
+from ..printing import visible
 from .fabric import Sent
 from .inputs import Port
 from .journals import Entries, Frame
@@ -50,7 +51,7 @@ def view_of(look: Look, port: int) -> list[tuple[Record, str]]:
 
 def with_comments(source: str, out: str, comments: Iterable[tuple[int, str]], room: str) -> None:
     """Copies a capture to a pcapng file with packet comments, by their frame numbers."""
-    words = [f"{number}:{text}" for number, text in comments]
+    words = [f"{number}:{visible(text)}" for number, text in comments]
     here, turn = source, 0
     while turn == 0 or turn * AT_ONCE < len(words):
         there = os.path.join(room, f"commented{turn}")

@@ -64,9 +64,12 @@ def causes(outcomes: list[Outcome]) -> list[str]:
     return [f"{count} not passed, of {len(by)} cause{'s' * (len(by) != 1)}; mend these first:", *(f"  {len(scenes)} x {why} ({', '.join(scenes)})" for why, scenes in rows)]
 
 
+KEPT = {"scene": str, "verdict": str}  # what of an earlier report is read
+
+
 def changes(outcomes: list[Outcome], before: list[dict[str, Any]]) -> list[tuple[Outcome, str]]:
     """The scenes with another verdict than in an earlier report, each with that."""
-    was = {it.get("scene"): str(it.get("verdict")) for it in before}
+    was = {it["scene"]: it["verdict"] for it in before}
     return [(it, was.get(it.scene, "not played")) for it in outcomes if it.verdict != was.get(it.scene, "not played")]
 
 

@@ -3,6 +3,7 @@ import re
 import shlex
 from typing import Optional
 
+from ..numerals import hexadecimal
 from .lines import Account, Line, Use
 from .model import WWN, Kind, Member, Reading, Role, Vendor, Which, Zone, ZoneSet
 from .tables import Tables
@@ -126,7 +127,7 @@ class Reader:
     def add_member(self, zone: Zone, line: Line, word: str) -> None:
         if PROPERTY.match(word) and not zone.members:
             # the property member of a peer zone: its last two bytes say how many principals follow, where no heading does
-            self.is_peer, self.principals = True, int(word.replace(":", "")[12:], 16)
+            self.is_peer, self.principals = True, hexadecimal(word.replace(":", "")[12:])
             self.role = Role.PEER
             return
         member = member_of(word, line)

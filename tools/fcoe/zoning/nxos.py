@@ -3,7 +3,7 @@ import re
 from dataclasses import dataclass, field, replace
 from typing import Optional
 
-from ..numerals import whole
+from ..numerals import hexadecimal, told, whole
 from .lines import Account, Line, Use
 from .model import WWN, Kind, Member, Reading, Role, Vendor, Which, Zone, ZoneSet
 from .tables import Tables
@@ -48,6 +48,7 @@ MEMBERS: list[tuple[Kind, "re.Pattern[str]"]] = [
     (Kind.ALIAS, re.compile(rf"^fcalias\s+(?:name\s+)?({NAME})(?:\s+vsan\s+\d+)?()(.*)$", re.I)),
 ]
 REST = re.compile(r"^\s*(?:\[\s*([^\[\]]*?)\s*\])?\s*(?:\[\s*([^\[\]]*?)\s*\])?\s*\(?(init|initiator|target|both)?\)?\s*$", re.I)
+DIGITS = re.compile(r"(?:0x)?[0-9a-f]+(?=\s|$)")
 TYPED = re.compile(r"^(pwwn|nwwn|fwwn|interface|domain-id|symbolic-nodename|device-alias|fcalias)\s", re.I)
 
 
@@ -55,7 +56,7 @@ def value_of(kind: Kind, word: str) -> str:
     if kind in (Kind.WWPN, Kind.NODE, Kind.FABRIC_PORT, Kind.FCID):
         return word.lower()
     if kind is Kind.DOMAIN_PORT:
-        domain, port = (int(it, 16) if it.startswith("0x") else int(it) for it in re.findall(r"(?:0x)?[0-9a-f]+(?=\s|$)", word.lower())[-2:])
+        domain, port = (hexadecimal(it.removeprefix("0x")) if it.startswith("0x") or whole(it) is None else told(it) for it in DIGITS.findall(word.lower())[-2:])
         return f"{domain},{port}"
     return " ".join(word.split())
 

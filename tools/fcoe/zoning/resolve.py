@@ -3,6 +3,7 @@ from dataclasses import dataclass, field
 from typing import Iterable, Optional
 
 from ..errors import counted
+from ..numerals import hexadecimal, told
 from .model import Ends, Kind, LoginRow, Member, Role, Vendor, Zone, Zoning
 
 DEEPEST = 50  # aliases that stand one in the other: no switch takes two
@@ -34,7 +35,7 @@ class Known:
         """A member that isn't a WWPN names this login."""
         kind, value = member.kind, member.value
         if kind is Kind.FCID:
-            return row.fcid == int(value, 16)
+            return row.fcid == hexadecimal(value)
         if kind is Kind.NODE:
             return row.wwnn == value
         if kind is Kind.FABRIC_PORT:
@@ -42,7 +43,7 @@ class Known:
         if kind is Kind.INTERFACE:
             return row.port.lower() == value.split()[0].lower()
         if kind is Kind.DOMAIN_PORT and row.index is not None and row.fcid is not None:
-            return (row.fcid >> 16, row.index) == tuple(int(it) for it in value.split(","))
+            return (row.fcid >> 16, row.index) == tuple(map(told, value.split(",")))
         return kind in (Kind.ALIAS, Kind.DEVICE_ALIAS) and row.called == value
 
     def of(self, member: Member) -> list[str]:

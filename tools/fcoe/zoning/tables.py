@@ -4,7 +4,7 @@ import re
 from dataclasses import replace
 from typing import Any, Callable, Optional
 
-from ..numerals import whole
+from ..numerals import hexadecimal, whole
 from .lines import Line, Use
 from .model import WWN, LoginRow
 
@@ -76,19 +76,19 @@ class Tables:
 
 
 def flogi(tables: Tables, line: Line, it: "re.Match[str]") -> Use:
-    return tables.add(LoginRow(it[4].lower(), line.place, int(it[3], 16), it[1], it[5].lower(), vsan=whole(it[2])))
+    return tables.add(LoginRow(it[4].lower(), line.place, hexadecimal(it[3]), it[1], it[5].lower(), vsan=whole(it[2])))
 
 
 def fcoe(tables: Tables, line: Line, it: "re.Match[str]") -> Use:
-    return tables.add(LoginRow(it[4].lower(), line.place, int(it[3], 16), it[1], vsan=whole(it[2] or "")))
+    return tables.add(LoginRow(it[4].lower(), line.place, hexadecimal(it[3]), it[1], vsan=whole(it[2] or "")))
 
 
 def fcns(tables: Tables, line: Line, it: "re.Match[str]") -> Use:
-    return tables.add(LoginRow(it[2].lower(), line.place, int(it[1], 16), vsan=tables.vsan))
+    return tables.add(LoginRow(it[2].lower(), line.place, hexadecimal(it[1]), vsan=tables.vsan))
 
 
 def nsshow(tables: Tables, line: Line, it: "re.Match[str]") -> Use:
-    return tables.add(LoginRow(it[2].lower(), line.place, int(it[1], 16), wwnn=it[3].lower()))
+    return tables.add(LoginRow(it[2].lower(), line.place, hexadecimal(it[1]), wwnn=it[3].lower()))
 
 
 def switchshow(tables: Tables, line: Line, it: "re.Match[str]") -> Use:
@@ -96,7 +96,7 @@ def switchshow(tables: Tables, line: Line, it: "re.Match[str]") -> Use:
     tables.is_open = False
     names = re.findall(WWN, it[4])
     if len(names) == 1 and re.search(r"\b[NFV]\w*-Port\b", it[4]):
-        return tables.add(LoginRow(names[0].lower(), line.place, int(it[2], 16), it[1], index=whole(it[1])))
+        return tables.add(LoginRow(names[0].lower(), line.place, hexadecimal(it[2]), it[1], index=whole(it[1])))
     if re.search(r"\d+ N Port|NPIV", it[4]):
         tables.remarks.append(f"{line.place}: port {it[1]} has several N_Ports, which `switchshow` doesn't name: `nsshow` does")
     return Use.FIELD
@@ -106,7 +106,7 @@ def loginshow(tables: Tables, line: Line, it: "re.Match[str]") -> Use:
     """The granted MAC ends in the FCID (FPMA); it is the MAC that begins with 0e:fc."""
     macs = [it[3].lower(), it[4].lower()]
     granted = next((mac for mac in macs if mac.startswith("0e:fc")), macs[1])
-    return tables.add(LoginRow(it[2].lower(), line.place, int(granted.replace(":", "")[6:], 16), it[1]))
+    return tables.add(LoginRow(it[2].lower(), line.place, hexadecimal(granted.replace(":", "")[6:]), it[1]))
 
 
 ROWS: list[tuple["re.Pattern[str]", Callable[[Tables, Line, "re.Match[str]"], Use]]] = [

@@ -7,6 +7,7 @@ from typing import Any, Optional
 from ..answers.views import Row, busiest, first_clock
 from ..errors import Refused
 from ..frames.heard import colons, fcid, number
+from ..numerals import hexadecimal
 from ..runs.compare import read_reply
 from ..runs.fabric import Login
 from ..runs.journals import TICK, Entries, Frame
@@ -232,7 +233,7 @@ def answers(change: Change) -> list[Row]:
         name = colons(held[heard.fc.s_id].name) if heard.fc.s_id in held else fcid(heard.fc.s_id)
         row = found.setdefault((name, heard.kind), {"wwpn": name, "query": heard.kind, "count": 0, "lacks": []})
         row["count"] += 1
-        gone = [colons(held[int(it, 16)].name) if int(it, 16) in held else it for it in sorted(before - behind)]
+        gone = [colons(held[hexadecimal(it)].name) if hexadecimal(it) in held else it for it in sorted(before - behind)]
         row["lacks"] += [it for it in gone if it not in row["lacks"]]
     return list(found.values())
 
