@@ -265,6 +265,8 @@ class Maker:
         made = self.large(rng) if rng.random() < LARGE else rng.choice(kinds)(self, rng)
         if rng.random() < 0.08:
             made.words = self.bent_words(rng, made.words)
+        if made.tool == "scenes" and not {"--list", "--scene"} & set(made.words):
+            made.words.append("--list")  # which plays none
         made.is_terminal, made.encoding = rng.random() < 0.25, rng.choice(("utf-8",) * 9 + ("ascii",))
         return made
 

@@ -172,6 +172,17 @@ def test_a_file_is_whole_or_as_it_was(tmp_path: pathlib.Path) -> None:
     assert path.read_text() == "a\\x1b\\xff\n" and os.listdir(tmp_path) == ["x"]
 
 
+@pytest.mark.parametrize("field", [8, 12])
+def test_a_length_that_is_spoiled_takes_no_room(field: int, tmp_path: pathlib.Path) -> None:
+    """Of a record deep in the file: what is there of the frame, and how long it was."""
+    place = 24
+    for _ in range(40):
+        place += 16 + int.from_bytes(PLAIN[place + 8 : place + 12], "little")
+    (tmp_path / "c").write_bytes(PLAIN[: place + field] + (0xFFFFFFF0).to_bytes(4, "little") + PLAIN[place + field + 4 :])
+    ran = subprocess.run(["bash", "-c", f"ulimit -v 400000; {TOP}/tools/look check c"], cwd=tmp_path, capture_output=True, text=True, check=False)
+    assert ran.returncode in (0, 1) and "no memory" not in ran.stderr, ran.stderr
+
+
 def test_what_comes_is_counted_in_any_pieces() -> None:
     frames = [(it, bytes(it)) for it in range(50)]
     packed = block("<", 0x0A0D0D0A, struct.pack("<IHHq", 0x1A2B3C4D, 1, 0, -1)) + block("<", 6, bytes(40)) * 3

@@ -19,7 +19,7 @@ from types import TracebackType
 from typing import Callable, NoReturn, Optional
 
 from .errors import COULD_NOT, FAULT, INTERRUPTED, NEXT, Refused, note
-from .printing import Closed, Mute, shown
+from .printing import Closed, Mute, say_aside, shown
 from .progress import PROGRESS
 
 DEBUG = "--debug"  # a word of each tool: shows where a fault of the tool is
@@ -99,7 +99,7 @@ def ended(run: Run, words: list[str]) -> int:
     except BaseException as why:  # pylint: disable=broad-exception-caught
         PROGRESS.clear()
         if is_debugging:
-            traceback.print_exception(why)
+            say_aside("".join(traceback.format_exception(why)).splitlines())
         return told(why)
 
 

@@ -221,7 +221,7 @@ def prli_form(talk: Talk, tally: Tally) -> None:
             size = int.from_bytes(payload[2:4], "big")
             tally.judge(
                 it,
-                want("page length", payload[1], 16),
+                want("page length", payload[1] if len(payload) > 1 else None, 16),
                 want("payload length", size, "4 and 16 for each page, and no more than the payload", 20 <= size <= len(payload) and size % 16 == 4),
             )
 

@@ -19,6 +19,7 @@ RESPONDER, LAST_SEQUENCE, END_SEQUENCE = 0x800000, 0x100000, 0x080000
 REQUESTS = (0x22, 0x02, 0x06)  # R_CTL of what begins an exchange: a link service, a CT_IU, an FCP command
 ANSWERS_TO_ABTS, ACKNOWLEDGES = ("BA_ACC", "BA_RJT"), 0xC0
 UNANSWERED = ("LOGO", "TEST")  # who has no login may not answer the one, and nobody answers the other
+LONGEST = 65535  # bytes of a frame: a length on the wire that is spoiled takes no room
 LATE, REGULAR = 1.6, 4  # periods without a keep alive, and how many come on time for each that doesn't, for one to be lost
 PERIODS = 2.5  # advertised periods of silence that end a link (FC-BB-5)
 
@@ -28,7 +29,7 @@ class Decoded:
 
     def __get__(self, it: "Shown", _owner: type) -> Heard:
         frames = it.port.frames
-        return frames.heard(it.at) if it.is_whole else hear(frames.data(it.at).ljust(frames.lengths[it.at], b"\0"))
+        return frames.heard(it.at) if it.is_whole else hear(frames.data(it.at).ljust(min(frames.lengths[it.at], LONGEST), b"\0"))
 
 
 @dataclass(eq=False)

@@ -54,8 +54,8 @@ class Source:
         self.begin, self.piece = 0, b""
 
     def read(self, place: int, size: int) -> bytes:
-        """So many bytes from a place on; fewer at the end of the file."""
-        return os.pread(self.file, size, place)
+        """So many bytes from a place on; fewer at the end of the file, so that a length that is spoiled takes no room."""
+        return os.pread(self.file, max(min(size, self.size - place), 0), place)
 
     def take(self, place: int, size: int) -> bytes:
         """Bytes that were there when the file was opened."""

@@ -44,7 +44,8 @@ def line_ends(path: pathlib.Path) -> list[int]:
 
 
 def end_of(frames: Frames, count: int) -> int:
-    """Where the first frames of a capture end."""
+    """Where the first frames of a capture end; of one that hasn't as many, where it ends."""
+    count = min(count, len(frames))
     return frames.places[count - 1] + frames.sizes[count - 1] if count else HEAD
 
 
