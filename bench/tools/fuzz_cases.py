@@ -20,7 +20,7 @@ from fcoe.frames.captures import classic as read_classic  # pylint: disable=wron
 from fcoe.frames.heard import fc_check  # pylint: disable=wrong-import-position
 
 DEMO = TOP / "demo"
-ANYTHING = (None, 0, -1, 10**30, 1.5, "x", "\x1b[5m", "\ud800", [], {}, ["a"], [["a"]], {"a": 1}, True)  # that JSON can say
+ANYTHING: tuple[object, ...] = (None, 0, -1, 10**30, 1.5, "x", "\x1b[5m", "\ud800", [], {}, ["a"], [["a"]], {"a": 1}, True)  # that JSON can say
 Wire = tuple[int, bytes]  # a moment in nanoseconds, and a frame
 A, B = "20:00:00:1b:21:00:00:0a", "20:00:00:1b:21:00:00:0b"
 # what makes a terminal do something; none is a sequence that a tool means itself

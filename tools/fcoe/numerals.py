@@ -60,4 +60,3 @@ def seconds(word: str) -> float:
     if not FRACTION.fullmatch(digits) or digits in ("", "."):
         raise ValueError(word)
     return -float(digits) if word.startswith("-") else float(digits)
-
