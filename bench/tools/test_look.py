@@ -138,6 +138,15 @@ class Cases(Base):
         self.assertEqual(told(self.json("logins", "--quiet", "big_endian.pcap")), host)
         self.assertEqual(told(self.json("logins", "--quiet", "back.pcap")), host)
 
+    def test_comments(self) -> None:
+        """Each frame of the capture has the verdict of its own line as its comment."""
+        self.readme()
+        subprocess.run([str(TOOLS / "annotate"), str(DEMO / "fabric.conf"), "readme.journal", PAIR[0], "told.pcapng", "1"], cwd=self.folder, check=True, capture_output=True)
+        lines = (line.split(" ", 3) for line in (self.folder / "readme.journal").read_text(encoding="ascii").splitlines())
+        wanted = [f"{int(line[2]) + 1}\t{line[3]}" for line in lines if len(line) == 4 and line[1] == "1"]
+        shown = subprocess.run(["tshark", "-r", "told.pcapng", "-T", "fields", "-e", "frame.number", "-e", "frame.comment"], cwd=self.folder, capture_output=True, text=True, check=True)
+        self.assertEqual(shown.stdout.splitlines(), wanted)
+
     def test_interfaces(self) -> None:
         both = self.json("summary", "two_interfaces.pcapng")
         self.assertEqual([it["hosts"] for it in both["ports"]], [162, 153])
