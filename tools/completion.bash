@@ -43,6 +43,19 @@ _live() {
 }
 complete -o default -F _live live
 
+# The completion of vm: its options, folders, and what is done with a machine.
+_vm() {
+    local word=${COMP_WORDS[COMP_CWORD]}
+    if [[ $word == -* ]]; then
+        mapfile -t COMPREPLY < <(compgen -W "--tap --mac --vlan --kvm --help" -- "$word")
+    elif [ "$COMP_CWORD" = 1 ]; then
+        mapfile -t COMPREPLY < <(compgen -d -- "$word")
+    else
+        mapfile -t COMPREPLY < <(compgen -W "start stop end" -- "$word")
+    fi
+}
+complete -o filenames -F _vm vm
+
 # The completion of scenes, fcoe_host and load: options by --help, names of scenes and faults by --list, interfaces, and then files.
 _scenes() {
     local word=${COMP_WORDS[COMP_CWORD]} before=${COMP_WORDS[COMP_CWORD - 1]} tool=${COMP_WORDS[0]} words=

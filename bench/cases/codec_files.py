@@ -19,8 +19,16 @@ SMALL = bytes.fromhex(
 )
 
 
+TOO_LONG = bytes.fromhex("01000000000000000000010001000000")  # a record's head
+
+
 def captures(cases: Cases) -> None:
     cases.section("libpcap: captures")
+    for section in (heads, records_read, captures_of_faults, faults_kept, captures_within_limits, captures_written):
+        section(cases)
+
+
+def heads(cases: Cases) -> None:
     cases.test("heads_are_told_apart", "the magics of both byte orders and units, versions and link types")
     low = bytes.fromhex("020004000000000000000000ffff000001000000")
     high = bytes.fromhex("000200040000000000000000" + "0000ffff00000001")
@@ -31,6 +39,9 @@ def captures(cases: Cases) -> None:
     for magic, rest, want in rows + [("d4c3b2a1", version, "error BadVersion"), ("d4c3b2a1", link, "error NotEthernet")]:
         cases.case("pcap-head " + magic + rest.hex(), want)
     cases.case("pcap-head " + LITTLE[:23].hex(), "error Short")
+
+
+def records_read(cases: Cases) -> None:
     cases.test("big_endian_nanoseconds", "258 s and 501,999,999 ns; then a record that lies before it and was stored in part; by fetches of 1, 7 and 5000 bytes")
     data = BIG_NANO + bytes.fromhex("000001021debe97f0000000300000003070809" + "000001010000000000000001000000" + "6405")
     for step in (1, 7, 5000):
@@ -41,6 +52,9 @@ def captures(cases: Cases) -> None:
     cases.add("fill 65535 07")
     crc = zlib.crc32(b"\x07" * 65535)
     cases.case(f"pcap @ 5000 {AMPLE[0]} {AMPLE[1]}", f"=record moment=1000 whole=yes bytes=65535-bytes,crc={crc:08x}", f"left bytes={AMPLE[0] - 24 - 65551} ")
+
+
+def captures_of_faults(cases: Cases) -> None:
     cases.test("errors_are_told_in_words", "no magic, a cut record at 176, and one at 40 that is too long")
     cases.case(f"pcap {'00' * 24} 5000 {AMPLE[0]} 1", "=error Head(BadMagic): the first 4 bytes are no magic of a capture")
     cases.add("capture head")
@@ -48,16 +62,21 @@ def captures(cases: Cases) -> None:
     cases.case(f"pcap 01 5000 {AMPLE[0]} 9", "=error Cut { at: 176 }: the record at 176 is cut")
     cases.add("capture head")
     cases.add("capture 1000 -")
-    long = bytes.fromhex("01000000000000000000010001000000")
-    cases.case(f"pcap {long.hex()} 5000 {AMPLE[0]} 9", "=error TooLong { at: 40, len: 65536 }: the record at 40 stores 65536 bytes, more than 65535")
+    cases.case(f"pcap {TOO_LONG.hex()} 5000 {AMPLE[0]} 9", "=error TooLong { at: 40, len: 65536 }: the record at 40 stores 65536 bytes, more than 65535")
+
+
+def faults_kept(cases: Cases) -> None:
     cases.test("pcap.the_first_fault_is_told_and_kept", "a cut record, the limits, and a record that is too long; asked once more the reader fetches nothing")
     record = bytes.fromhex("01000000000000000300000003000000070809")
-    long += bytes(3)
+    long = TOO_LONG + bytes(3)
     rows = [(record, 15, 100, 1, "Cut { at: 24 }"), (record, 18, 100, 1, "Cut { at: 24 }"), (record, 18, 18, 0, "Bytes"), (record, 19, 18, 0, "Bytes")]
     rows += [(record, 19, 19, 0, "Frames"), (record, 18, 19, 0, "Frames"), (long, 16, 18, 0, "TooLong { at: 24, len: 65536 }")]
     for tail, given, left, count, want in rows:
         wants = (f"error {want}: ", f"again: error {want}: ", "=fetches for it: 0", f"left bytes={left} frames={count} ")
         cases.case(f"pcap {(LITTLE + tail[:given]).hex()} 5000 {24 + left} {count}", *wants)
+
+
+def captures_within_limits(cases: Cases) -> None:
     cases.test("a_small_budget_is_told_before_a_fetch", "23 bytes are left where a head has 24; and a head that is cut leaves the budget as it is")
     cases.case(f"pcap {LITTLE.hex()} 5000 23 1", "error Bytes", "=left bytes=23 frames=1 fetches=0")
     cases.case(f"pcap {LITTLE[1:].hex()} 5000 24 1", "error Head(Short)", "left bytes=24 frames=1 ")
@@ -67,6 +86,9 @@ def captures(cases: Cases) -> None:
         cases.add(f"capture {second * 1000} 010203")
     wants = tuple(f"=record moment={second * 1000} whole=yes bytes=010203" for second in range(100))
     cases.case(f"pcap @ 5000 {AMPLE[0]} {AMPLE[1]}", *wants, f"=left bytes={AMPLE[0] - 24 - 1900} frames=199900 fetches=2")
+
+
+def captures_written(cases: Cases) -> None:
     cases.test("a_capture_is_written", "a frame at 1 s, and a byte at the last moment that a record can have")
     cases.add("capture head")
     cases.add("capture 1000 " + "00" * 60)
@@ -87,26 +109,40 @@ def ng(cases: Cases, held: tuple[str, ...], data: str, limits: str, *wants: str)
         cases.case(f"{word} {data} {limits}", *wants)
 
 
+NG_LITTLE = LITTLE_HEADS + VLAN_REQUEST + bytes([92, 0, 0, 0])
+NG_BIG = BIG_HEADS + VLAN_REQUEST + bytes([0, 0, 0, 92])
+NG_OTHER = bytes([5, 0, 0, 0, 12, 0, 0, 0, 12, 0, 0, 0])  # a block of another kind
+ALL = f"{AMPLE[0]} {AMPLE[1]}"
+UNTOUCHED = f"left bytes={AMPLE[0]} frames={AMPLE[1]} "
+
+
 def pcapng(cases: Cases) -> None:
     cases.section("pcapng: captures")
+    for section in (ng_requests, ng_first_faults, ng_limits, ng_sections, ng_other_blocks, ng_converted, ng_streams):
+        section(cases)
+
+
+def ng_requests(cases: Cases) -> None:
     cases.test("pcapng_of_one_vlan_request", "in both byte orders, by fetches of 1, 7 and 5000 bytes")
-    little = LITTLE_HEADS + VLAN_REQUEST + bytes([92, 0, 0, 0])
-    big = BIG_HEADS + VLAN_REQUEST + bytes([0, 0, 0, 92])
-    ample = f"{AMPLE[0]} {AMPLE[1]}"
-    for data in (little, big):
+    for data in (NG_LITTLE, NG_BIG):
         for step in (1, 7, 5000):
             record = f"=original=60 face=0 record moment=1000 whole=yes bytes={VLAN_REQUEST.hex()}"
-            ng(cases, (), data.hex(), f"{step} {ample}", record, f"left bytes={AMPLE[0] - 140} frames=199999 ")
+            ng(cases, (), data.hex(), f"{step} {ALL}", record, f"left bytes={AMPLE[0] - 140} frames=199999 ")
     cases.test("pcapng_with_an_unknown_interface", "interface 1, where the section has one; nothing is taken from the limits")
-    untouched = f"left bytes={AMPLE[0]} frames={AMPLE[1]} "
-    ng(cases, (), changed(little, (56, 1)).hex(), f"5000 {ample}", "error Fault { at: 48, why: Interface }", untouched)
+    ng(cases, (), changed(NG_LITTLE, (56, 1)).hex(), f"5000 {ALL}", "error Fault { at: 48, why: Interface }", UNTOUCHED)
+
+
+def ng_first_faults(cases: Cases) -> None:
     cases.test("the_first_test_that_holds_is_told", "a fault of one test, and one of a later test")
     rows = [((0, 11), (8, 0), 0, "Section"), ((8, 0x4E), (4, 29), 0, "Order"), ((4, 29), (12, 2), 0, "Length"), ((4, 24), (12, 2), 0, "Length")]
     rows += [((32, 16), (46, 5), 28, "Length"), ((60, 28), (64, 1), 56, "Length"), ((60, 40), (64, 1), 56, "Cut"), ((24, 29), (12, 2), 0, "Length")]
     rows += [((76, 5), (64, 1), 56, "Length"), ((12, 2), (36, 2), 0, "Version"), ((56, 3), (64, 1), 56, "Simple"), ((46, 5), (64, 1), 28, "Options")]
     rows += [((64, 1), (36, 2), 56, "Interface"), ((36, 2), (48, 10), 56, "Link"), ((48, 10), (71, 60), 56, "Resolution"), ((48, 0x83), (71, 60), 56, "Resolution")]
     for first, second, at, why in rows + [((44, 14), (71, 60), 56, "Offset"), ((71, 60), (80, 0), 56, "Time")]:
-        ng(cases, (), changed(SMALL, first, second).hex(), f"5000 {ample}", f"error Fault {{ at: {at}, why: {why} }}", untouched)
+        ng(cases, (), changed(SMALL, first, second).hex(), f"5000 {ALL}", f"error Fault {{ at: {at}, why: {why} }}", UNTOUCHED)
+
+
+def ng_limits(cases: Cases) -> None:
     cases.test("limits_stand_between_the_tests", "bytes before the cut, and frames behind it")
     rows = [(27, 0, 92, "error Limit(Bytes)"), (91, 0, 80, "error Limit(Bytes)"), (92, 0, 80, "error Fault { at: 56, why: Cut }"), (92, 0, 92, "error Limit(Frames)")]
     for left, count, given, want in rows + [(92, 1, 92, "=original=5 face=0 record moment=1 whole=no bytes=01020304")]:
@@ -115,14 +151,19 @@ def pcapng(cases: Cases) -> None:
     for given in range(92):
         at = 0 if given < 29 else 28 if given < 57 else 56
         want = "as pcap " if given in (28, 56) else f"error Fault {{ at: {at}, why: Cut }}"
-        ng(cases, (), one(SMALL[:given]), f"5000 {ample}", want)
+        ng(cases, (), one(SMALL[:given]), f"5000 {ALL}", want)
+
+
+def ng_sections(cases: Cases) -> None:
     cases.test("sections_units_and_other_blocks", "a section in nanoseconds, another block, and a big-endian section in microseconds")
-    other = bytes([5, 0, 0, 0, 12, 0, 0, 0, 12, 0, 0, 0])
     wants = ("=original=5 face=0 record moment=1 whole=no bytes=01020304", f"=original=60 face=0 record moment=1000 whole=yes bytes={VLAN_REQUEST.hex()}")
-    ng(cases, (), (SMALL + other + big).hex(), f"5000 {ample}", *wants)
+    ng(cases, (), (SMALL + NG_OTHER + NG_BIG).hex(), f"5000 {ALL}", *wants)
     cases.add("# a second section has no interface of the first")
     short = SMALL + BIG_HEADS[:28] + bytes([0, 0, 0, 6]) + BIG_HEADS[52:] + VLAN_REQUEST + bytes([0, 0, 0, 92])
-    ng(cases, (), short.hex(), f"5000 {ample}", "error Fault { at: 120, why: Interface }")
+    ng(cases, (), short.hex(), f"5000 {ALL}", "error Fault { at: 120, why: Interface }")
+
+
+def ng_other_blocks(cases: Cases) -> None:
     cases.test("a_block_of_another_kind_goes_by", "its length twice, and all its bytes; by fetches of 7 and 5000 bytes")
     rows = [(12, 12, 12, None), (12, 16, 12, "Length"), (16, 16, 16, None), (16, 12, 16, "Length"), (16, 16, 15, "Cut"), (4096, 4096, 4096, None)]
     rows += [(4096, 4092, 4096, "Length"), (4096, 4096, 4095, "Cut"), (4096, 4096, 1000, "Cut"), (4097, 4097, 4096, "Length")]
@@ -132,26 +173,32 @@ def pcapng(cases: Cases) -> None:
             zeros = min(len(block) - 8, min(size - 12, 4084))
             held = ("hex " + (SMALL + block[:8]).hex(), f"fill {zeros} 00")
             want = "as pcap " if why is None else f"error Fault {{ at: 92, why: {why} }}"
-            ng(cases, held, block[8 + zeros :].hex() or "-", f"{step} {ample}", want)
+            ng(cases, held, block[8 + zeros :].hex() or "-", f"{step} {ALL}", want)
+
+
+def ng_converted(cases: Cases) -> None:
     cases.test("a_packet_of_65536_bytes_is_too_long", "and one of 65,535 is not")
     for stored, want in [(65535, "original=65535 face=0 record moment=1 whole=yes"), (65536, "error Fault { at: 56, why: Long }")]:
         size = (32 + 65536).to_bytes(4, "little")
         held = ("hex " + (SMALL[:60] + size + SMALL[64:76] + 2 * stored.to_bytes(4, "little")).hex(), "fill 65536 00")
-        ng(cases, held, size.hex(), f"5000 {ample}", want)
+        ng(cases, held, size.hex(), f"5000 {ALL}", want)
     cases.test("a_file_is_converted", "to a capture in microseconds (the file that is written is told by a test)")
     want = LITTLE + bytes([0, 0, 0, 0, 0xE8, 3, 0, 0, 4, 0, 0, 0, 5, 0, 0, 0, 1, 2, 3, 4])
-    ng(cases, (), SMALL.hex(), f"5000 {ample}", "=as pcap " + want.hex())
+    ng(cases, (), SMALL.hex(), f"5000 {ALL}", "=as pcap " + want.hex())
+
+
+def ng_streams(cases: Cases) -> None:
     cases.test("a_stream_waits_for_no_byte", "two packets and a block of another kind between them, by fetches that end with the first packet")
     packet = "original=5 face=0 record moment=1 whole=no bytes=01020304"
-    both = SMALL + other + SMALL[56:]
+    both = SMALL + NG_OTHER + SMALL[56:]
     for step, fetches in ((92, (1, 2, 3)), (48, (2, 3, 4)), (104, (1, 2, 3)), (5000, (1, 1, 2))):
         answer = f"{packet}\nfetches={fetches[0]}\n{packet}\nfetches={fetches[1]}\nend fetches={fetches[2]}"
-        cases.case(f"stream {both.hex()} {step} {ample}", "==" + answer)
+        cases.case(f"stream {both.hex()} {step} {ALL}", "==" + answer)
     cases.test("a_fetch_of_a_stream_fails", "each in turn: the packets before it are given, and the fault is told again")
     fault = "error Read(Failed): the file could not be read"
     for most in range(21):
         said = [f"{packet}\nfetches={at}" for at in (14, 20) if at <= most]
-        cases.case(f"stream {both.hex()} 7 {ample} {most}", "==" + "\n".join([*said, fault, "again: " + fault, "fetches for it: 0"]))
+        cases.case(f"stream {both.hex()} 7 {ALL} {most}", "==" + "\n".join([*said, fault, "again: " + fault, "fetches for it: 0"]))
 
 
 FIRST = "fcf-mac 0e:fc:00:00:00:0a\nvlan 100\n"

@@ -134,29 +134,44 @@ def ct_row(cases: Cases, code: int, body: bytes, said: str) -> None:
     cases.judged("ct", payload[:-1], "error Size")
 
 
+A = bytes([0, 1, 2, 3])  # an address, as requests have it
+PORT_NAME = NAME.hex()
+TYPES = bytes([0, 0, 1, 0]) + bytes(27) + b"\x01"
+CT_ACCEPT = ct_head(0x8002)
+
+
 def ct(cases: Cases) -> None:
     cases.section("FC-GS-6: requests to the name server, and its answers")
-    a, name = bytes([0, 1, 2, 3]), "2000001b2100000a"
+    for section in (queries, registrations, ct_faults, maps, short_answers, long_answers):
+        section(cases)
+
+
+def queries(cases: Cases) -> None:
     cases.test("queries_are_read_and_written", "queries for an address and for a port name")
     for code, word in [(0x100, "GA_NXT"), (0x112, "GPN_ID"), (0x113, "GNN_ID"), (0x117, "GFT_ID"), (0x11F, "GFF_ID")]:
-        ct_row(cases, code, a, f"{word} address=010203")
-    ct_row(cases, 0x121, NAME, f"GID_PN port={name}")
+        ct_row(cases, code, A, f"{word} address=010203")
+    ct_row(cases, 0x121, NAME, f"GID_PN port={PORT_NAME}")
     cases.test("queries_by_type_are_read_and_written", "queries for a type, whose byte is the last, and for a port type, whose byte is the first")
     for code, word in [(0x171, "GID_FT"), (0x172, "GPN_FT"), (0x173, "GNN_FT")]:
         ct_row(cases, code, bytes([0, 0, 0, 8]), f"{word} type=8")
     ct_row(cases, 0x1A1, bytes([0x7F, 0, 0, 0]), "GID_PT port-type=127")
+
+
+def registrations(cases: Cases) -> None:
     cases.test("registrations_are_read_and_written", "a node name, types, a feature, and their end")
-    ct_row(cases, 0x213, a + NAME, f"RNN_ID address=010203 node={name}")
-    types = bytes([0, 0, 1, 0]) + bytes(27) + b"\x01"
-    ct_row(cases, 0x217, a + types, "RFT_ID address=010203 types=,8,224 zero=no")
-    ct_row(cases, 0x21F, a + bytes([0, 0, 2, 8]), "RFF_ID address=010203 feature=2 type=8")
-    ct_row(cases, 0x300, a, "DA_ID address=010203")
+    ct_row(cases, 0x213, A + NAME, f"RNN_ID address=010203 node={PORT_NAME}")
+    ct_row(cases, 0x217, A + TYPES, "RFT_ID address=010203 types=,8,224 zero=no")
+    ct_row(cases, 0x21F, A + bytes([0, 0, 2, 8]), "RFF_ID address=010203 feature=2 type=8")
+    ct_row(cases, 0x300, A, "DA_ID address=010203")
     cases.test("symbols_are_read_and_written", "the symbolic names of a port and of a node")
-    ct_row(cases, 0x218, a + b"\x03abc", "RSPN_ID address=010203 symbol=616263")
-    ct_row(cases, 0x239, NAME + b"\x03abc", f"RSNN_NN node={name} symbol=616263")
+    ct_row(cases, 0x218, A + b"\x03abc", "RSPN_ID address=010203 symbol=616263")
+    ct_row(cases, 0x239, NAME + b"\x03abc", f"RSNN_NN node={PORT_NAME} symbol=616263")
     cases.test("a_symbol_is_filled_up_to_a_word", "a symbol of four bytes is written with three more")
     symbol = ct_head(0x218) + bytes([0, 0, 0, 1, 4]) + b"port"
     cases.judged("ct", symbol, f"=RSPN_ID address=000001 symbol=706f7274 written={(symbol + bytes(3)).hex()}")
+
+
+def ct_faults(cases: Cases) -> None:
     cases.test("ct.the_first_fault_is_told", "each fault before those of later tests")
     payload = ct_head(0x100)
     cases.judged("ct", payload, "error Size")
@@ -169,29 +184,37 @@ def ct(cases: Cases) -> None:
     cases.test("the_rest_of_the_preamble_is_free", "a registration whose reserved bytes are 9")
     free = bytes([2, 9, 9, 9, 0xFC, 2, 9, 9, 2, 0x1F, 9, 9, 9, 9, 9, 9, 9, 1, 2, 3, 9, 9, 0xF2, 8])
     cases.judged("ct", free, "RFF_ID address=010203 feature=2 type=8 ")
+
+
+def maps(cases: Cases) -> None:
     cases.test("maps_are_looked_into", "the types and the features of maps: each that is named is there, and no other")
-    cases.judged("ct", ct_head(0x217) + a + bytes([0, 0, 1, 0]) + bytes(24) + bytes([0x80, 0, 0, 1]), " types=,8,224,255 zero=no ")
-    cases.judged("ct", ct_head(0x217) + a + bytes(32), " types= zero=yes ")
+    cases.judged("ct", ct_head(0x217) + A + bytes([0, 0, 1, 0]) + bytes(24) + bytes([0x80, 0, 0, 1]), " types=,8,224,255 zero=no ")
+    cases.judged("ct", ct_head(0x217) + A + bytes(32), " types= zero=yes ")
     features = bytes(4) + bytes([0, 0, 0, 0x32]) + bytes(116) + bytes([0xF0, 0, 0, 0])
-    accept = ct_head(0x8002)
-    cases.case("tell features " + features.hex(), "=features= 8=2 9=3 255=15", "=answer " + (accept + features).hex())
+    cases.case("tell features " + features.hex(), "=features= 8=2 9=3 255=15", "=answer " + (CT_ACCEPT + features).hex())
     cases.test("ct.a_fault_has_a_text", "of a payload that is for another service")
-    cases.judged("ct", changed(payload, (5, 3)), "=error NotNameServer: the payload isn't for the name server")
+    cases.judged("ct", changed(ct_head(0x100), (5, 3)), "=error NotNameServer: the payload isn't for the name server")
     cases.test("a_reject_has_its_reason_and_explanation", "reason 9, explanation 2")
     cases.case("tell reject 9 2", "=answer " + bytes([1, 0, 0, 0, 0xFC, 2, 0, 0, 0x80, 1, 0, 0, 0, 9, 2, 0]).hex())
+
+
+def short_answers(cases: Cases) -> None:
     cases.test("short_answers", "an accept without more, with an address, a name, types and features")
-    cases.case("tell done", "=answer " + accept.hex())
-    cases.case("tell port 010203", "=answer " + (accept + a).hex())
-    cases.case("tell name " + NAME.hex(), "=answer " + (accept + NAME).hex())
-    cases.case("tell types " + types.hex(), "=answer " + (accept + types).hex())
+    cases.case("tell done", "=answer " + CT_ACCEPT.hex())
+    cases.case("tell port 010203", "=answer " + (CT_ACCEPT + A).hex())
+    cases.case("tell name " + NAME.hex(), "=answer " + (CT_ACCEPT + NAME).hex())
+    cases.case("tell types " + TYPES.hex(), "=answer " + (CT_ACCEPT + TYPES).hex())
     features = bytes(7) + b"\x02" + bytes(116) + bytes([0xF0, 0, 0, 0])
-    cases.case("tell features " + features.hex(), "=features= 8=2 255=15", "=answer " + (accept + features).hex())
+    cases.case("tell features " + features.hex(), "=features= 8=2 255=15", "=answer " + (CT_ACCEPT + features).hex())
+
+
+def long_answers(cases: Cases) -> None:
     cases.test("a_list_of_70_addresses_marks_the_last", "70 addresses from 010000 on")
     entries = b"".join(bytes([0x80 if n == 69 else 0, 1, 0, n]) for n in range(70))
-    cases.case("tell addresses 70", "=answer " + (accept + entries).hex())
+    cases.case("tell addresses 70", "=answer " + (CT_ACCEPT + entries).hex())
     cases.test("names_stand_behind_reserved_bytes", "two addresses with their names")
     entries = bytes([0, 1, 1, 0, 0, 0, 0, 0]) + NAME + bytes([0x80, 2, 3, 4, 0, 0, 0, 0]) + NAME
-    cases.case(f"tell names 010100 {name} 020304 {name}", "=answer " + (accept + entries).hex())
+    cases.case(f"tell names 010100 {PORT_NAME} 020304 {PORT_NAME}", "=answer " + (CT_ACCEPT + entries).hex())
     cases.test("the_next_port_has_620_bytes", "all that is known of a port")
     want = bytearray(620)
     want[:4] = bytes([1, 1, 2, 3])
@@ -202,11 +225,16 @@ def ct(cases: Cases) -> None:
     want[277:532] = b"n" * 255
     want[559], want[562], want[591] = 8, 1, 1
     want[608:616] = bytes.fromhex("200100051e000002")
-    line = f"tell next 010203 {name} {b'port'.hex()} 1000001b2100000a {(b'n' * 255).hex()} {types.hex()} 200100051e000002"
-    cases.case(line, "=answer " + (accept + bytes(want)).hex())
+    line = f"tell next 010203 {PORT_NAME} {b'port'.hex()} 1000001b2100000a {(b'n' * 255).hex()} {TYPES.hex()} 200100051e000002"
+    cases.case(line, "=answer " + (CT_ACCEPT + bytes(want)).hex())
 
 
 def frames(cases: Cases) -> None:
+    for section in (ethernet_frames, fc_frames, fcoe_faults, fcoe_bodies, check_sequences):
+        section(cases)
+
+
+def ethernet_frames(cases: Cases) -> None:
     cases.section("802.1Q: Ethernet frames")
     cases.test("a_frame_without_a_tag_is_read", "the head of a VLAN request")
     cases.judged("eth", UNTAGGED, "eth dst=01:10:18:01:00:02 src=00:1b:21:00:00:0a vlan=0 type=8914 body=1000 ")
@@ -220,6 +248,8 @@ def frames(cases: Cases) -> None:
     cases.test("ethernet.a_fault_has_a_text", "of a frame that is too short")
     cases.judged("eth", b"", "=error Short: the frame is shorter than its Ethernet header")
 
+
+def fc_frames(cases: Cases) -> None:
     cases.section("FC-FS-3: frames of Fibre Channel")
     cases.test("each_field_is_read_at_its_place", "a state change from the fabric controller")
     said = "=fc r-ctl=22 d-id=010101 cs-ctl=00 s-id=fffffd type=01 f-ctl=290000 seq-id=07 df-ctl=03 seq-cnt=2 ox-id=1234 rx-id=fffe parameter=5"
@@ -237,6 +267,8 @@ def frames(cases: Cases) -> None:
     cases.add("fill 2140 00")
     cases.case("fc @", "=error Long: the payload has more than 2112 bytes")
 
+
+def fcoe_faults(cases: Cases) -> None:
     cases.section("FC-BB-5: bodies of FCoE")
     cases.test("a_state_change_is_read_and_written", "a state change to 010101 between SOFi3 and EOFt")
     cases.judged("fcoe", FCOE, "fcoe sof=2e eof=42 ", " d-id=010101 ", " payload=6104000800010100 written=same")
@@ -250,6 +282,9 @@ def frames(cases: Cases) -> None:
     body = changed(body, (0, 0x10))
     cases.judged("fcoe", body, "error Version")
     cases.judged("fcoe", body[:53], "error Length")
+
+
+def fcoe_bodies(cases: Cases) -> None:
     cases.test("the_shortest_and_the_longest_body", "no payload, and one of 2112 bytes")
     short = bytes(13) + b"\x28" + bytes(24) + bytes.fromhex("20cac1a3") + b"\x50" + bytes(3)
     cases.judged("fcoe", short, "fcoe sof=28 eof=50 ")
@@ -266,6 +301,8 @@ def frames(cases: Cases) -> None:
     cases.test("fcoe.a_fault_has_a_text", "of a CRC")
     cases.judged("fcoe", changed(FCOE, (49, 0)), ": the CRC is 001869ec and should be ec1869ec")
 
+
+def check_sequences(cases: Cases) -> None:
     cases.section("FC-FS-3: the CRC")
     cases.test("the_published_values", "of the digits 1 to 9, of abc and of no bytes")
     for data, want in [(b"123456789", 0xCBF43926), (b"abc", 0x352441C2), (b"", 0)]:

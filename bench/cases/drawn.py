@@ -342,17 +342,24 @@ class Played:
         if phase == "looking":
             return advertisement(dice, to, source, vlan, self.fc_map, 1 if right else 0, self.period)
         if phase == "logging":
-            address, kind, ox_id = dice.choice([0x010100, 0x010101, 1, 0xFEFFFF]), 7, machine.ox_id
-            mac, usual, what = None, self.usual, dice.randrange(5)
-            if not right:
-                address = dice.choice([0, 0xFF0000, 0xFFFFFE]) if what == 0 else address
-                kind = dice.choice([8, 9]) if what == 1 else kind
-                ox_id = dice.choice([ox_id - 1, ox_id + 1, 0]) % 65536 if what == 2 else ox_id
-                usual = 0 if what == 3 else usual
-                mac = dice.choice([b"", bytes(6), self.mac]) if what == 4 else mac
-            mac = (machine.fc_map or self.fc_map) + address.to_bytes(3, "big") if mac is None else mac
-            return reply(dice, to, source, vlan, kind, address, mac, ox_id, usual)
-        what = dice.randrange(6)
+            return self.accept(machine, to, source, vlan, right)
+        return self.frame_while_up(machine, to, source, vlan)
+
+    def accept(self, machine: models.Node, to: bytes, source: bytes, vlan: Tag, right: bool) -> bytes:
+        dice = self.dice
+        address, kind, ox_id = dice.choice([0x010100, 0x010101, 1, 0xFEFFFF]), 7, machine.ox_id
+        mac, usual, what = None, self.usual, dice.randrange(5)
+        if not right:
+            address = dice.choice([0, 0xFF0000, 0xFFFFFE]) if what == 0 else address
+            kind = dice.choice([8, 9]) if what == 1 else kind
+            ox_id = dice.choice([ox_id - 1, ox_id + 1, 0]) % 65536 if what == 2 else ox_id
+            usual = 0 if what == 3 else usual
+            mac = dice.choice([b"", bytes(6), self.mac]) if what == 4 else mac
+        mac = (machine.fc_map or self.fc_map) + address.to_bytes(3, "big") if mac is None else mac
+        return reply(dice, to, source, vlan, kind, address, mac, ox_id, usual)
+
+    def frame_while_up(self, machine: models.Node, to: bytes, source: bytes, vlan: Tag) -> bytes:
+        dice, what = self.dice, self.dice.randrange(6)
         if what < 3:
             return advertisement(dice, dice.choice([ALL_ENODES, to]), source, vlan, self.fc_map, self.usual, self.period)
         if what == 3:

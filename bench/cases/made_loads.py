@@ -87,7 +87,7 @@ def loads():
 
 def main():
     lines = [f"{port} {index} {verdict_of(port, frame)}" for _, port, index, frame in load(int(sys.argv[1]))]
-    journal = [line.split(" ", 1)[1] for line in pathlib.Path(sys.argv[2]).read_text().splitlines()[1:]]
+    journal = [line.split(" ", 1)[1] for line in pathlib.Path(sys.argv[2]).read_text(encoding="ascii").splitlines()[1:]]
     found = [line for line in journal if not line.startswith("tick")]
     print(f"{len(lines)} frames, {sum(one != other for one, other in zip(lines, found))} of them with another verdict, {len(found)} in the journal")
     sys.exit(0 if lines == found else 1)

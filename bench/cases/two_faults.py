@@ -4,6 +4,7 @@ The order of the tests is that of docs/JOURNAL.md: the rules of dropping, and be
 values of some of them; two faults that change one field are no pair. Whether FIP and a link service can be read bench/cases/codec_judge.py says.
 """
 import itertools
+import pathlib
 import re
 import zlib
 
@@ -14,7 +15,16 @@ FORWARDER, ALL_FCFS, OTHER = bytes.fromhex("00051e000002"), bytes.fromhex("01101
 FABRIC, CONTROLLER, NAMES = b"\xff\xff\xfe", b"\xff\xff\xfd", b"\xff\xff\xfc"
 FIP_RULES = {"Version": "fip-version", "Operation": "fip-operation", "ListLength": "fip-list", "DescLength": "fip-length", "Critical": "fip-critical",
              "Double": "fip-double", "Missing": "fip-missing"}
-LOGIN_ORDER = ["dropped " + rule for rule in "vlan fip-dest fip-mac els-short els-kind keepalive-unknown".split()]
+JOURNAL = pathlib.Path(__file__).resolve().parents[2] / "docs/JOURNAL.md"
+
+
+def journal_rules():
+    """The rules of dropping in the order of the page, and whether a number stands behind each."""
+    section = re.search(r"^## Rules of dropping$(.*?)^## ", JOURNAL.read_text(encoding="utf-8"), re.M | re.S)
+    return {rule: bool(number) for rule, number in re.findall(r"^\| `([a-z-]+)( NUMBER)?` \|", section[1], re.M)}
+
+
+LOGIN_ORDER = ["dropped " + rule for rule in journal_rules()]
 LOGIN_ORDER += ["rejected " + codes for codes in ("0b 2c", "09 00", "0b 00", "03 00", "09 29")]
 FCOE_ORDER = ["dropped " + rule for rule in """vlan fcoe-length fcoe-version fcoe-sof fcoe-eof fcoe-crc fcoe-class fcoe-dest source-mac source-login source-port
 service-address service-frame els-short ct-short self dest-login zone""".split()]

@@ -163,30 +163,41 @@ def tried(program: str, room: pathlib.Path) -> Optional[str]:
     noise = sum(not is_of_fabric(it) for records in sides for it in records)
     total = sum(map(len, sides))
     checks.that(f"all but the {noise} frames that are neither FIP nor FCoE pass", line == f"passed {total - noise} dropped {noise}")
-    up = [it for it in merged(sides[1:]) if is_of_fabric(it)]
-    checks.that("the forwarder gets them unchanged, in order", outs[0] == capture_of((it.moment, it.data) for it in up))
-    for name, out, host in zip(HOSTS, outs[1:], hosts):
-        own = [it for it in sides[0] if is_for(it, host)]
-        checks.that(f"the {name} gets what is to it, unchanged, in order", out == capture_of((it.moment, it.data) for it in own))
+    try_ways(checks, sides, outs, hosts)
     (room / "up.pcap").write_bytes(outs[0])
     again = said(program, room, "run", CONFIG, "journal-up", "up.pcap", "sent-up.pcap")
     checks.that("the forwarder decides as without the bridge", verdicts(room / "journal-up") == [it for it in verdicts(room / "journal") if it != "dropped ethertype"])
     print(f"{'run before and behind the bridge':46} {ran}, {again}")
 
+    try_once_more(checks, program, room, sides, outs, (total - noise, noise))
+    return "the bridge isn't as it should be" if checks.wrong else None
+
+
+def try_ways(checks: Checks, sides: list[list[Record]], outs: list[bytes], hosts: list[list[Record]]) -> None:
+    """Each side gets what is to it."""
+    up = [it for it in merged(sides[1:]) if is_of_fabric(it)]
+    checks.that("the forwarder gets them unchanged, in order", outs[0] == capture_of((it.moment, it.data) for it in up))
+    for name, out, host in zip(HOSTS, outs[1:], hosts):
+        own = [it for it in sides[0] if is_for(it, host)]
+        checks.that(f"the {name} gets what is to it, unchanged, in order", out == capture_of((it.moment, it.data) for it in own))
+
+
+def try_once_more(checks: Checks, program: str, room: pathlib.Path, sides: list[list[Record]], outs: list[bytes], before: tuple[int, int]) -> None:
+    """A command of the initiator again: on its port, on the target's, and with the target's S_ID."""
+    passed, dropped = before
     command = next(it for it in sides[1] if it.data[16:18] == b"\x89\x06" and it.data[32] == 6 and it.data[40] == 8)
-    passed, dropped = total - noise, noise
-    for what, folder, side, data, counts, rule in (
-        ("a command of the initiator once more", "again", 1, command.data, (passed + 1, dropped), None),
-        ("the same on the target's port", "wrong-port", 2, command.data, (passed, dropped + 1), "unbound"),
-        ("the same on its port, with the target's S_ID", "wrong-source", 1, with_source(command.data, 0x010100), (passed, dropped + 1), "source"),
-    ):
+    for number, (what, side, data, rule) in enumerate((
+        ("a command of the initiator once more", 1, command.data, None),
+        ("the same on the target's port", 2, command.data, "unbound"),
+        ("the same on its port, with the target's S_ID", 1, with_source(command.data, 0x010100), "source"),
+    )):
         more = with_frame(sides, side, Record(command.moment, data))
-        line, now = through(program, room / folder, more)
+        line, now = through(program, room / f"again{number}", more)
         show(what, line, more)
-        checks.that(f"{what}: {counts}", line == f"passed {counts[0]} dropped {counts[1]}")
+        counts = f"passed {passed + (rule is None)} dropped {dropped + (rule is not None)}"
+        checks.that(f"{what}: {counts}", line == counts)
         checks.that(f"{what}: it is dropped as {rule} by the model", rule is None or rules(more).get(rule) == 1)
         checks.that(f"{what}: no output changes", rule is None or now == outs)
-    return "the bridge isn't as it should be" if checks.wrong else None
 
 
 def is_for(it: Record, host: list[Record]) -> bool:

@@ -97,36 +97,42 @@ def without_wait(heard: list[Record]) -> tuple[list[Record], int]:
     return [*heard[: told + 1], *moved], wait
 
 
-def tried(program: str, room: pathlib.Path, place: int) -> int:
-    """How many things aren't so with one host."""
-    host, wrong = Beside(program, room, place), 0
-    recorded = DEMO / f"{HOSTS[place]}.pcap"
-    heard, _ = host.fabric(recorded)
-    address = host.granted(recorded)
-    want = f"up {address} 0efc00{address}"
-    print(f"{HOSTS[place]}: {host.mac.hex(':')} {host.name.hex(':')} {host.node.hex(':')}, granted {address}")
-
-    def show(what: str, line: str, is_so: bool) -> None:
-        nonlocal wrong
-        wrong += not is_so
-        print(f"  {what:66} {line}{'' if is_so else '  NOT SO'}")
-
-    line, sent = host.play("as-it-is", heard)
-    show("1. as it is", line, line == "logging")
-    changed, ox_id = with_ox_id(heard, sent)
-    line, _ = host.play("ox-id", changed)
-    show(f"2. with the OX_ID {ox_id} in the accept", line, line == want)
-    moved, wait = without_wait(heard)
-    line, sent = host.play("no-wait", moved)
-    show(f"3. with {wait} ms taken out of the moments", line, line == want)
-    own, had = room / "own.pcap", b""
+def in_loop(host: Beside, own: pathlib.Path) -> tuple[str, str]:
+    """The node and the forwarder over what the other sent, until nothing changes: what the node prints then, and `replay`."""
     own.write_bytes(HEAD)
+    had, line, words = b"", "", list[object]()
     while own.read_bytes() != had:
         had = own.read_bytes()
         heard, words = host.fabric(own)
         line, sent = host.play("loop", heard)
         write(own, sent)
-    replayed = host.said("replay", *words)
-    address = host.granted(own)
-    show("4. in a loop with the forwarder", f"{line}, replay {replayed}", line == f"up {address} 0efc00{address}" and replayed.startswith("legal "))
-    return wrong
+    return line, host.said("replay", *words)
+
+
+def up(address: str) -> str:
+    return f"up {address} 0efc00{address}"
+
+
+def show(what: str, line: str, is_so: bool) -> int:
+    """Prints it, and says whether it isn't so."""
+    print(f"  {what:66} {line}{'' if is_so else '  NOT SO'}")
+    return not is_so
+
+
+def tried(program: str, room: pathlib.Path, place: int) -> int:
+    """How many things aren't so with one host."""
+    host = Beside(program, room, place)
+    recorded, own = DEMO / f"{HOSTS[place]}.pcap", room / "own.pcap"
+    heard, _ = host.fabric(recorded)
+    address = host.granted(recorded)
+    print(f"{HOSTS[place]}: {host.mac.hex(':')} {host.name.hex(':')} {host.node.hex(':')}, granted {address}")
+    line, sent = host.play("as-it-is", heard)
+    wrong = show("1. as it is", line, line == "logging")
+    changed, ox_id = with_ox_id(heard, sent)
+    line, _ = host.play("ox-id", changed)
+    wrong += show(f"2. with the OX_ID {ox_id} in the accept", line, line == up(address))
+    moved, wait = without_wait(heard)
+    line, _ = host.play("no-wait", moved)
+    wrong += show(f"3. with {wait} ms taken out of the moments", line, line == up(address))
+    line, replayed = in_loop(host, own)
+    return wrong + show("4. in a loop with the forwarder", f"{line}, replay {replayed}", line == up(host.granted(own)) and replayed.startswith("legal "))

@@ -15,7 +15,7 @@ import sys
 CODECS = "eth_frames fc_frames fcoe_codec fip_codec els_messages ct_messages"
 TABLES = "fc_addresses login_table keepalive_clock name_server state_change"
 FABRIC = "fab_policy fab_roster fab_sending fab_judge forward_core fab_shared"
-RUNS = "fab_gather fab_windows fab_replay fab_live fab_pages run_files side_runs fabric_tool"
+RUNS = "window_records fab_windows fab_replay fab_live fab_pages run_files side_runs fabric_tool"
 
 # a sentence of the page, and the crates that it means
 PROCESS = ("No crate but fcoe_tool and tool_process knows the process.", "tool_process fcoe_tool")
@@ -62,7 +62,7 @@ PHRASES: dict[str, tuple[str, str]] = {
     "who is logged in": ("fab_roster login_table", "Login"),
     "who runs it": (RUNS, ""),
     "who wrote the files": ("fab_live fab_migrate fab_windows run_files", ""),
-    "why a frame is sent": (f"fab_gather fab_judge fab_roster {SENDS}", "Verdict Rule Journal"),
+    "why a frame is sent": (f"window_records fab_judge fab_roster {SENDS}", "Verdict Rule Journal"),
     "zones": ("zone_rules", ""),
 }
 TESTS = re.compile("_tests|_cases|case_|examples")  # in names of crates that are no rooms: tests, cases and examples
@@ -151,16 +151,18 @@ def wrong(top: pathlib.Path) -> list[str]:
     said += [f"bench/text/rooms.py: no cell of {page} has '{it}'" for it in sorted(set(PHRASES) - used)]
     meant = set(" ".join([PROCESS[1], *(it for it, _ in PHRASES.values())]).split())
     said += [f"bench/text/rooms.py: there is no {it}" for it in sorted(meant) if not is_there(it, folders)]
-    for name in sorted(set(found) & set(folders)):
-        what, phrases = found[name]
-        begin = first_sentence((folders[name] / "README.md").read_text(encoding="utf-8"))
-        said += [] if what == begin else [f"{page}: {name} is '{what}', and its README begins with '{begin}'"]
-        crates, words, modules = named(folders[name], set(folders))
-        never, unsaid = unknown_of(name, phrases, set(folders))
-        inside = {it for it in never - set(folders) if any(f"{path}.".startswith(f"{it}.") for path in modules)}
-        both = sorted(crates & never | inside | words & unsaid)
-        said += [f"crates/{name}: may not know {' '.join(both)}"] * bool(both)
-    return said
+    return said + [it for name in sorted(set(found) & set(folders)) for it in wrong_of(name, *found[name], folders)]
+
+
+def wrong_of(name: str, what: str, phrases: list[str], folders: dict[str, pathlib.Path]) -> list[str]:
+    """The same of one room."""
+    begin = first_sentence((folders[name] / "README.md").read_text(encoding="utf-8"))
+    said = [] if what == begin else [f"{PAGE}: {name} is '{what}', and its README begins with '{begin}'"]
+    crates, words, modules = named(folders[name], set(folders))
+    never, unsaid = unknown_of(name, phrases, set(folders))
+    inside = {it for it in never - set(folders) if any(f"{path}.".startswith(f"{it}.") for path in modules)}
+    both = sorted(crates & never | inside | words & unsaid)
+    return said + [f"crates/{name}: may not know {' '.join(both)}"] * bool(both)
 
 
 if __name__ == "__main__":

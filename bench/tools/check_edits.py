@@ -1,11 +1,9 @@
 """Edits of captures for bench/tools/faults.py: one frame changed, dropped, moved or put in, with a right check sequence again."""
-import pathlib
-import sys
 from dataclasses import dataclass, replace
 from typing import Callable, Optional
 
 import wire
-from machine import TOP as TOP
+import machine  # pylint: disable=unused-import # it sets the path for what follows
 
 from fcoe.frames.columns import Record
 from fcoe.frames.heard import Heard, fc_check, hear

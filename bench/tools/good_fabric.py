@@ -7,9 +7,9 @@ import struct
 from dataclasses import dataclass, field
 from typing import Callable, Optional
 
-from machine import TOP as TOP
+import machine  # pylint: disable=unused-import # it sets the path for what follows
 
-from fcoe.frames.columns import Record as Record
+from fcoe.frames.columns import Record
 from fcoe.frames.heard import ALL_ENODES, CONTROLLER, FABRIC_PORT, FIP_TYPE, KEEP_ALIVE, LOGIN, NAME_SERVER, SOLICIT, VLAN_REQUEST, Fc, Heard, hear, number
 from fcoe.host.enode import ENode
 from fcoe.host.speech import Head, descriptor, ethernet, fcoe, fip, mac_descriptor, three

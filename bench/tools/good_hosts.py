@@ -80,13 +80,11 @@ class VariedStorage(Storage):
         begin = self.port.count_of(fc) if choices.counts_on else 0
         sequence = self.port.next_sequence()
         for count, at in enumerate(range(offset, offset + length, most)):
-            is_last = at + most >= offset + length
-            f_ctl = bits | (0x080000 if is_last else 0) | (0x010000 if is_last and not is_back else 0)
             size = min(most, offset + length - at)
-            fill = -size % 4
-            head = Head(0x01, 0x08, f_ctl | fill, fc.ox_id, fc.rx_id if not is_back else self.port.rx_id(fc), sequence, begin + count, at)
-            edges = (SOFI3 if not count else 0x36, EOFT if is_last else EOFN)
-            self.port.send(fc.s_id, head, bytes(size + fill), edges)
+            f_ctl = bits | -size % 4 | (0 if at + size < offset + length else 0x080000 if is_back else 0x090000)
+            head = Head(0x01, 0x08, f_ctl, fc.ox_id, fc.rx_id if not is_back else self.port.rx_id(fc), sequence, begin + count, at)
+            edges = (SOFI3 if not count else 0x36, EOFT if at + size >= offset + length else EOFN)
+            self.port.send(fc.s_id, head, bytes(size + -size % 4), edges)
             self.port.counts[self.port.key(fc)] = begin + count + 1
         return begin
 
@@ -246,7 +244,8 @@ class VariedPort(NPort):
                 if it.is_logged_in:
                     self.ask(Asked(address, 0x01, speech.address_discovery(speech.ADISC, self.address, *self.names), lambda _: None, tries=9))
             return speech.accept()
-        if choices.heeds == "GPN_ID" and fc.payload[4] == 0:
+        is_served = not any(it.to == NAME_SERVER and it.kind == 0x01 for it in self.open.values())  # its PLOGI there was answered
+        if choices.heeds == "GPN_ID" and fc.payload[4] == 0 and is_served:
             self.ask(Asked(NAME_SERVER, 0x20, speech.ct(0x0112, b"\0" + fc.payload[5:8]), lambda _: None))
         return super().take_change(fc)
 
@@ -448,4 +447,3 @@ def drawn(world: World, vlan: int, has_class2: bool) -> Choices:
     made.functions, made.bursts = lot.choice([0, 0, BOTH]), lot.choice([0, 2048, 4096, 16384])
     made.acts, made.registers_more = lot.choice([0, 2, 5, 12]), world.chance(0.5)
     return made
-

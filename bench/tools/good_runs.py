@@ -5,9 +5,10 @@ again; frames are lost, late and doubled on the wire, and the capture is taken a
 """
 from dataclasses import dataclass
 
-from good_fabric import Cable, Fabric, Record, Ways, World
+from good_fabric import Cable, Fabric, Ways, World
 from good_hosts import Choices, VariedHost, VariedPort, drawn
 
+from fcoe.frames.columns import Record
 from fcoe.host.enode import Manner
 from fcoe.host.speech import Head, Names, fabric_logout
 
@@ -167,7 +168,7 @@ class Base(Play):
             for number in (0, 1):
                 self.world.after(60.0 + 4 * turn + 2 * number, lambda turn=turn, number=number: self.asks(number, turn))  # type: ignore[misc]
         self.world.after(100.0, lambda: self.aborts(1))
-        self.world.after(104.0, lambda: self.hosts[2].stop())
+        self.world.after(104.0, self.hosts[2].stop)
         for seconds, call in ((290.0, self.second_leaves), (300.0, self.clear_one), (320.0, self.clear_all), (340.0, self.leaves), (370.0, self.silence)):
             self.world.after(seconds, call)
 

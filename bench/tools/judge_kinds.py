@@ -14,6 +14,7 @@ HERE = pathlib.Path(__file__).resolve().parent
 sys.path[:0] = [str(HERE), str(HERE.parent / "cases"), str(HERE.parent / "program"), str(HERE.parent.parent / "tools")]
 
 # pylint: disable=wrong-import-position
+import kinds_of_commands  # pylint: disable=unused-import
 import kinds_of_forms  # pylint: disable=unused-import
 from fcoe.answers import views
 from fcoe.errors import Refused

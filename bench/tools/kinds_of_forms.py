@@ -56,6 +56,37 @@ def vxlan_wrapped(seed: int, folder: Path) -> list[Path]:
     return case.written(folder)
 
 
+@kind(r"\d+ frames of FIP and FCoE stand in GRE", is_well=True)
+def gre_bridged(seed: int, folder: Path) -> list[Path]:
+    """Ethernet in GRE (NVGRE), by the seed with key, sequence number or check sum."""
+    case = well_used(seed)
+    flags = case.lot.choice([0x0000, 0x2000, 0x3000, 0xB000])
+    more = 4 * bin(flags).count("1")
+    case.s.packets[1] = [Packet(it.moment, tunnel(case.lot, 47, struct.pack(">HH", flags, 0x6558) + bytes(more) + it.data)) for it in case.s.packets[1]]
+    return case.written(folder)
+
+
+@kind(r"\d+ frames of FIP and FCoE stand in MPLS", is_well=True)
+def mpls(seed: int, folder: Path) -> list[Path]:
+    """A pseudowire: one to three labels, with a control word or without one."""
+    case = well_used(seed)
+    labels = [case.lot.randrange(16, 1 << 20) for _ in range(case.lot.randrange(1, 4))]
+    stack = b"".join(struct.pack(">I", it << 12 | (at == len(labels) - 1) << 8 | 64) for at, it in enumerate(labels))
+    word = case.lot.choice([b"", bytes(4)])
+    case.s.packets[1] = [Packet(it.moment, wire.ethernet(case.lot.randbytes(6), case.lot.randbytes(6), 0x8847, stack + word + it.data)) for it in case.s.packets[1]]
+    return case.written(folder)
+
+
+@kind(r"\d+ frames of FIP and FCoE stand in LLC/SNAP", is_well=True)
+def snap(seed: int, folder: Path) -> list[Path]:
+    """What is short enough for a length field stands behind LLC and SNAP."""
+    case = well_used(seed)
+    for it in case.s.packets[1]:
+        if len(it.data) < 1500:
+            it.data = it.data[:12] + struct.pack(">H", len(it.data) - 6) + bytes.fromhex("aaaa03000000") + it.data[12:]
+    return case.written(folder)
+
+
 @kind(r"\d+ frames of FIP and FCoE stand in a second VLAN tag", is_well=True)
 def qinq(seed: int, folder: Path) -> list[Path]:
     case = well_used(seed)
@@ -85,6 +116,23 @@ def no_dcbx(seed: int, folder: Path) -> list[Path]:
         case.s.put(1, lldp(case.s.switch.mac, [(4, 2, 3260)], 1 << 4))
         case.s.tick()
         case.s.put(1, lldp(case.h.mac, [(3, 1, 0x8906), (3, 1, 0x8914)], 1 << 3))
+        case.s.wait(30)
+    return case.written(folder)
+
+
+@kind(r"names iSCSI \(priority 4\), no FCoE; PFC on priority 4; ETS gives (40|60|100) % to priority 4", is_refused=True)
+def no_share(seed: int, folder: Path) -> list[Path]:
+    """DCBX of IEEE or of CEE with ETS, in which FCoE has no class."""
+    case = Case(seed)
+    case.beside = 0
+    share = case.lot.choice([40, 60, 100])
+    classes, shares = bytes([0x00, 0x00, 0x10, 0x00]), bytes([100 - share, share]) + bytes(6)
+    ieee = tlv(127, b"\x00\x80\xc2\x09\x02" + classes + shares + bytes(8)) + tlv(127, b"\x00\x80\xc2\x0b\x08\x10") + tlv(127, b"\x00\x80\xc2\x0c\0\x82" + struct.pack(">H", 3260))
+    head = bytes([0, 0, 0x80, 0])
+    features = tlv(2, head + classes + shares + b"\x08") + tlv(3, head + b"\x10\x08") + tlv(4, head + struct.pack(">HBHB", 3260, 1, 0, 0x10))
+    told = tlv(1, b"\x04" + case.s.switch.mac) + tlv(2, b"\x05Eth1/7") + tlv(3, b"\0\x78") + (tlv(127, b"\x00\x1b\x21\x02" + features) if seed % 2 else ieee) + tlv(0, b"")
+    for _ in range(case.lot.randrange(3, 9)):
+        case.s.put(1, wire.ethernet(bytes.fromhex("0180c200000e"), case.s.switch.mac, 0x88CC, told))
         case.s.wait(30)
     return case.written(folder)
 

@@ -106,6 +106,44 @@ def test_an_abort_and_its_answer(tmp_path: pathlib.Path) -> None:
     assert row["end"] == "aborted" and row["marks"].startswith("ABTS in 1/")
 
 
+def recovery(word: int, host: Host, ox_id: int) -> bytes:
+    """REC or SRR of an exchange of this host."""
+    own = ox_id.to_bytes(2, "big") + b"\xff\xff"
+    return bytes([0x13, 0, 0, 0, 0]) + host.address.to_bytes(3, "big") + own if word == 0x13 else bytes([0x14, 0, 0, 0]) + own + bytes(4) + b"\x01" + bytes(3)
+
+
+@pytest.mark.parametrize("word, name", [(0x13, "REC"), (0x14, "SRR")])
+def test_recovery_stands_at_its_exchange(word: int, name: str, tmp_path: pathlib.Path) -> None:
+    """A REC or SRR is an exchange of its own, and stands at the command that it is about."""
+    for seed in range(4):
+        made = Made(seed)
+        session, host, disk = made.session, made.host, made.disk
+        ox_id = session.read(host, disk, how="silent")
+        session.wait(3)
+        session.ask(host, disk.address, recovery(word, host, ox_id), wire.ACCEPTED)
+        rows = exchanges(*made.written(tmp_path))[0]
+        command = next(it for it in rows if it["command"] == "READ(10)")
+        own = next(it for it in rows if it["command"] == name)
+        assert own["end"] == "done" and command["marks"] == f"{name} in {own['first_frame']}"
+
+
+@pytest.mark.parametrize("flags, ends", [(0x0000, True), (0x1000, True), (0x2000, True), (0x2000, False)])
+def test_a_third_party_logout_ends_what_is_open(flags: int, ends: bool, tmp_path: pathlib.Path) -> None:
+    """TPRLO ends commands between its ends, of all parties, or of the third party that it has."""
+    for seed in range(4):
+        made = Made(seed)
+        session, host, disk = made.session, made.host, made.disk
+        session.read(host, disk, how="silent")
+        third = host.address if ends else 0x7F7F7F
+        page = bytes([8, 0]) + flags.to_bytes(2, "big") + bytes(8) + third.to_bytes(4, "big")
+        session.ask(host, disk.address, bytes([0x24, 16, 0, 20]) + page, wire.ACCEPTED)
+        rows = exchanges(*made.written(tmp_path))[0]
+        command = next(it for it in rows if it["command"] == "READ(10)")
+        own = next(it for it in rows if it["command"] == "TPRLO")
+        assert own["end"] == "done"
+        assert (command["end"], command["marks"]) == (("ended by a logout", f"TPRLO in {own['first_frame']}") if ends else ("open at the end", None))
+
+
 def test_answers_before_their_requests(tmp_path: pathlib.Path) -> None:
     """Two clocks, of which one is behind by less than the wait."""
     made = Made(7)

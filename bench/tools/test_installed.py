@@ -36,6 +36,7 @@ COMMANDS = [
     ("scenes --list", "scene"),
     ("fcoe_host --list", "fault"),
     ("load --frames 400 --ports 2 --logins 4 load", ""),
+    ("vm --help", "vm FOLDER start"),
 ]
 
 

@@ -13,8 +13,11 @@ sys.path[:0] = [str(HERE), str(HERE.parent / "cases"), str(HERE.parent / "progra
 # pylint: disable=wrong-import-position
 
 import judge_kinds
+from good_runs import good_run
 from kinds import KINDS, Case
 from machine import TOOLS, TOP
+
+from fcoe.frames.captures import write_classic
 
 DEMO = [TOP / "demo" / f"{name}.pcap" for name in ("initiator", "target")]
 LAB = "FCOE_CAPTURES"  # a folder that holds folders of captures of machines with which nothing was wrong, `inK.pcap` of port K each
@@ -51,6 +54,15 @@ def test_no_false_alarm_where_nothing_is_wrong(seeds: range, tmp_path: pathlib.P
         folder = tmp_path / str(seed)
         folder.mkdir()
         assert alarms(well_in_every_way(seed, folder)) == [], seed
+
+
+@pytest.mark.parametrize("seed", [158, 573, 90625, 91925, 52267])
+def test_no_false_alarm_over_right_runs(seed: int, tmp_path: pathlib.Path) -> None:
+    """A name server that takes a registration while it answers a request; an initiator alone; a LOGO to the name server, and LOGOs between N_Ports of a host,
+    while their logins end; a request that found no answer and is aborted."""
+    file = tmp_path / "good.pcap"
+    write_classic(str(file), good_run(seed).tape)
+    assert alarms([file]) == []
 
 
 @pytest.mark.parametrize("captures", [DEMO, DEMO[:1], DEMO[1:]], ids=["both", "initiator", "target"])

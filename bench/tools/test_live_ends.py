@@ -1,8 +1,10 @@
-"""What ends a session of tools/live and what doesn't: standard error that nobody reads, signals, ports that go, a second session, a clock that is set."""
+"""What ends a session of tools/live and what doesn't, and what it warns of: standard error that nobody reads, signals, limits, ports that go, a second session, a clock that is set."""
+import argparse
 import contextlib
 import json
 import os
 import pathlib
+import shutil
 import signal
 import subprocess
 import sys
@@ -12,11 +14,21 @@ from typing import Iterator
 import pytest
 from machine import TOOLS, program, root
 
-from fcoe.live import feeding, wires
+from fcoe.live import feeding, sessions, wires
 
 SPACE = f"live-ends-{os.getpid()}"
 LIVE = ["ip", "netns", "exec", SPACE, sys.executable, str(TOOLS / "live")]
 SECOND = 10**9
+# `live` with limits that a session soon reaches
+NEARLY = f"""
+import runpy, sys
+sys.path.insert(0, {str(TOOLS)!r})
+sys.argv[0] = {str(TOOLS / 'live')!r}
+import fcoe.start
+from fcoe.live import feeding
+feeding.LIMITS.update({{"frames": 40, "bytes of the stream": 200, "milliseconds": 3000}})
+runpy.run_path(sys.argv[0], run_name="__main__")
+"""
 CONFIG = "fcf-mac 00:05:1e:00:00:02\nvlan 100\nwindow 10\nperiod 250\n"
 
 
@@ -39,10 +51,10 @@ def space() -> Iterator[None]:
 
 
 @contextlib.contextmanager
-def session(folder: pathlib.Path, *words: str) -> Iterator["subprocess.Popen[bytes]"]:
+def session(folder: pathlib.Path, *words: str, live: list[str] = LIVE) -> Iterator["subprocess.Popen[bytes]"]:
     """A session that has begun."""
     (folder / "c.conf").write_text(CONFIG, encoding="ascii")
-    words = (*LIVE, "--program", program(), "--record", str(folder / "s"), *words, str(folder / "c.conf"), "port1", "port2")
+    words = (*live, "--program", program(), "--record", str(folder / "s"), *words, str(folder / "c.conf"), "port1", "port2")
     with subprocess.Popen(words, stdout=subprocess.PIPE, stderr=subprocess.PIPE) as process:
         for _ in range(600):
             if (folder / "s/in1.pcap").exists() and (folder / "s/in1.pcap").stat().st_size > 100:
@@ -73,12 +85,13 @@ def test_standard_error_that_nobody_reads(how: str, tmp_path: pathlib.Path) -> N
 
 
 @root
-@pytest.mark.parametrize("number", [signal.SIGUSR1, signal.SIGQUIT, signal.SIGTERM, signal.SIGALRM])
-def test_signals_are_told(number: signal.Signals, tmp_path: pathlib.Path) -> None:
+@pytest.mark.parametrize("name", ["SIGUSR1", "SIGQUIT", "SIGTERM", "SIGALRM", "SIGABRT", "SIGRTMIN", "SIGRTMIN+5", "SIGRTMAX"])
+def test_signals_are_told(name: str, tmp_path: pathlib.Path) -> None:
+    known, _, more = name.partition("+")
     with space(), session(tmp_path) as process:
-        process.send_signal(number)
+        process.send_signal(getattr(signal, known) + int(more or 0))
         process.communicate()
-        assert process.returncode == 0 and told(tmp_path) == (0, number.name)
+        assert process.returncode == 0 and told(tmp_path) == (0, name)
 
 
 @root
@@ -92,6 +105,45 @@ def test_ports_that_go_and_that_are_taken(tmp_path: pathlib.Path) -> None:
         err = process.communicate()[1].decode()
         assert process.returncode == 0, err
         assert "port1: Network is down" in err and "port2: was removed" in err and " down)" in err.splitlines()[-3], err
+
+
+@root
+def test_why_a_frame_was_not_sent(tmp_path: pathlib.Path) -> None:
+    """The advertisement that a host asked for has the size of its frames, which the port no longer takes."""
+    host = ["ip", "netns", "exec", SPACE, sys.executable, str(TOOLS / "fcoe_host"), "--seconds", "5", "--mac", "00:1b:21:00:00:0a", "host1"]
+    with space(), session(tmp_path) as process:
+        ip("-n", SPACE, "link", "set", "port1", "mtu", "1500")
+        subprocess.run(host, capture_output=True, check=False)
+        process.terminate()
+        err = process.communicate()[1].decode()
+        assert "Message too long: `ip link set port1 mtu 2500`" in err and " MTU)" in err.splitlines()[-3], err
+
+
+@root
+def test_limits_that_are_near_are_told(tmp_path: pathlib.Path) -> None:
+    """80% of each limit, once."""
+    with space(), session(tmp_path, "--mark", "10", "--seconds", "4", live=[*LIVE[:5], "-c", NEARLY]) as process:
+        said = process.communicate()[1].decode()
+        assert process.returncode == 0, said
+    for limit in ("40 frames", "200 bytes of the stream", "3,000 milliseconds"):
+        assert said.count(f"of the {limit} that a session takes: it ends by itself there") == 1, said
+
+
+@pytest.mark.parametrize("free, lines", [(4 << 20, 1), (feeding.ROOM, 0)])
+def test_a_disk_with_less_than_a_session_can_take(free: int, lines: int, monkeypatch: pytest.MonkeyPatch, capsys: pytest.CaptureFixture[str], tmp_path: pathlib.Path) -> None:
+    monkeypatch.setattr(shutil, "disk_usage", lambda _: argparse.Namespace(free=free))
+    feeding.check_room(sessions.Folder(tmp_path), False)
+    assert capsys.readouterr().err.count(f"has {free >> 20} MiB free") == lines
+
+
+@root
+def test_what_cannot_be_caught_is_told_by_who_reads(tmp_path: pathlib.Path) -> None:
+    with space(), session(tmp_path) as process:
+        process.kill()
+        process.communicate()
+    assert told(tmp_path) == (None, "")
+    look = subprocess.run([sys.executable, TOOLS / "look", "--session", str(tmp_path / "s")], capture_output=True, text=True, check=False)
+    assert look.returncode == 0 and "it was ended before it could say how" in look.stdout, look.stderr
 
 
 # ---- the clock

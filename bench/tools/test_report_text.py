@@ -16,6 +16,7 @@ SECTIONS: dict[str, tuple[int, list[str]]] = {
     "answer": (0, []),
     "logins": (1, HOSTS),
     "switch": (0, []),
+    "exchanges": (3, ["READ(10)", "PLOGI", "median"]),
     "check": (4, ["FC-BB-5"]),
     "drops": (0, ["dropped dest-login"]),
     "verdicts": (1, ["forwarded", "dropped ethertype", "granted"]),

@@ -218,6 +218,21 @@ class Files(Base):
                 made = self.said("zones", "--quiet", *words, *vsan, "--to", vendor, "--from", name)
                 self.assertEqual(pairs_of(self.said("zones", "--quiet", "--from", self.file("back.txt", made))), wanted, (name, vendor))
 
+    def test_other_switches(self) -> None:
+        """Forms that aren't read are refused by name, with the plain lines that are; so is none of them in part."""
+        for name, (whose, text) in forms.OTHERS.items():
+            said = self.refused("zones", "--from", self.file(name, text))
+            self.assertIn(whose, said, name)
+            self.assertIn("zone NAME WWPN WWPN ..", said, name)
+
+    def test_members_of_other_vsans(self) -> None:
+        """A member of another VSAN is one like the others, and that is said."""
+        for words in (["--vsan", "400"], ["--set", "other"]):
+            first, _, second = forms.IVR.partition("mds# show ivr")
+            ran = self.call("zones", *words, "--from", self.file("ivr.txt", first if "--vsan" in words else f"mds# show ivr{second}"))
+            self.assertEqual(pairs_of(ran.stdout), among(["20:00:00:1b:21:00:00:0a", "20:00:00:1b:21:00:00:0b"]), ran.stderr)
+            self.assertIn("is of another VSAN (IVR)", ran.stderr)
+
     def test_names(self) -> None:
         """A name that the configuration doesn't take is written otherwise, and that is said."""
         text = f" cfg:\tact\t1st; {'x' * 70}\n zone:\t1st\t{A}; {B}\n zone:\t{'x' * 70}\t{A}; {N}\n"

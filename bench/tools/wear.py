@@ -4,7 +4,7 @@ import zlib
 from dataclasses import replace
 from typing import Callable
 
-from machine import TOP as TOP
+import machine  # pylint: disable=unused-import # it sets the path for what follows
 
 from fcoe.frames.columns import Record
 from fcoe.frames.heard import hear
@@ -82,6 +82,7 @@ WEARS: dict[str, Wear] = {
     "0.5 ms late": late(500_000),
     "0.5 ms early": late(-500_000),
     "milliseconds": rough,
+    "snap 64": snapped(64),
     "snap 96": snapped(96),
     "snap 128": snapped(128),
     "1% lost": lost(0.01),

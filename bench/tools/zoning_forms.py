@@ -187,3 +187,88 @@ PEERS: list[Form] = [fos_peers, fos_properties]
 def as_file(lines: list[str], rng: random.Random) -> bytes:
     """With either end of line."""
     return (rng.choice(["\n", "\r\n"]).join(lines) + "\n").encode()
+
+
+# ---- forms that are refused by name, each as its switch prints it
+
+OTHERS = {
+    "fos_rest.json": (
+        "JSON",
+        """{"Response": {"effective-configuration": {"cfg-name": "PROD_CFG", "checksum": "5f1e", "enabled-zone": [
+  {"zone-name": "esx01_array1", "zone-type": 0, "zone-type-string": "zone",
+   "member-entry": {"entry-name": ["10:00:00:90:fa:11:22:01", "50:06:01:60:3b:20:11:aa"]}}]}}}
+""",
+    ),
+    "nxos.json": (
+        "JSON",
+        """{"TABLE_zoneset": {"ROW_zoneset": {"zoneset_name": "prod", "zoneset_vsan_id": "400", "TABLE_zone": {"ROW_zone": [
+  {"zone_name": "z1", "zone_vsan_id": "400", "TABLE_zone_member": {"ROW_zone_member": [{"type": "pwwn", "wwn": "20:00:00:1b:21:00:00:0a"}]}}]}}}}
+""",
+    ),
+    "comware.txt": (
+        "Comware",
+        """<core-1> display zoneset active vsan 2
+VSAN 2:
+  zoneset prod
+    zone z1
+      pwwn 20:00:00:1b:21:00:00:0a
+      pwwn 20:00:00:1b:21:00:00:0b
+""",
+    ),
+    "ftos.txt": (
+        "FTOS",
+        """Dell#show fc zoneset active
+Active Zoneset: fcoe_srv_fc_tgt
+ZoneName      ZoneMember
+=======================================
+brcd_sanb     10:00:00:00:c9:9c:4f:01
+              20:02:00:11:0d:03:00:00
+""",
+    ),
+    "vdx.txt": (
+        "VDX",
+        """sw0# show running-config zoning
+zoning defined-configuration zone z1
+ member-entry 20:00:00:1b:21:00:00:0a
+ member-entry 20:00:00:1b:21:00:00:0b
+!
+zoning defined-configuration cfg prod
+ member-zone z1
+!
+zoning enabled-configuration cfg-name prod
+""",
+    ),
+    "qlogic.txt": (
+        "QLogic",
+        """SANbox #> zoning active
+  Active ZoneSet Information
+  ZoneSet      Zone           ZoneMember
+  -----------------------------------------
+  wwn
+               wwn_b0241f
+                              50:06:04:82:bf:d2:18:c2
+                              21:00:00:e0:8b:02:41:2f
+""",
+    ),
+    "targetcli.txt": (
+        "targetcli",
+        """o- / ..................................................................... [...]
+  o- tcm_fc ........................................................ [Targets: 1]
+    o- naa.2000001b2100000b .............................................. [no-gen-acls]
+      o- acls ............................................................ [ACLs: 1]
+        o- naa.2000001b2100000a .................................... [Mapped LUNs: 1]
+""",
+    ),
+}
+IVR = """mds# show zoneset active vsan 400
+zoneset name across vsan 400
+  zone name IVRZ_esx vsan 400
+  * fcid 0x650040 [pwwn 20:00:00:1b:21:00:00:0a]
+    pwwn 20:00:00:1b:21:00:00:0b vsan 500
+mds# show ivr zoneset active
+zoneset name other
+  zone name z_esx
+  * pwwn 20:00:00:1b:21:00:00:0a vsan 400 autonomous-fabric-id 1
+    pwwn 20:00:00:1b:21:00:00:0b vsan 500 autonomous-fabric-id 1
+mds#
+"""

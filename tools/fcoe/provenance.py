@@ -5,6 +5,7 @@ import platform
 import re
 import subprocess
 import time
+from functools import cache
 from typing import Any, Iterable, Optional
 
 TOP = pathlib.Path(__file__).resolve().parents[2]
@@ -19,6 +20,7 @@ def version_of() -> Optional[str]:
     return found[1] if found else None
 
 
+@cache
 def commit_of() -> Optional[str]:
     """The commit of a working tree, with a plus where something was changed since."""
     words = ["git", "-C", str(TOP), "describe", "--always", "--dirty=+", "--abbrev=12", "--exclude=*"]

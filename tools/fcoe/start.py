@@ -9,18 +9,24 @@ import sys
 
 HOME = os.path.dirname(os.path.dirname(os.path.abspath(__file__)))
 IS_PROGRAM = os.path.dirname(os.path.realpath(sys.argv[0])) == HOME  # else another program calls a tool's functions
+# While Python itself begins, Ctrl-C waits: a tool's first line blocks it. From here until the tool runs it ends it as it ends any program.
 if IS_PROGRAM and _signal.getsignal(_signal.SIGINT) is _signal.default_int_handler:
-    _signal.signal(_signal.SIGINT, _signal.SIG_DFL)  # until the tool runs, Ctrl-C ends it as it ends any program
+    _signal.signal(_signal.SIGINT, _signal.SIG_DFL)
+if IS_PROGRAM:
+    _signal.pthread_sigmask(_signal.SIG_UNBLOCK, {_signal.SIGINT})
 
 # pylint: disable=wrong-import-position
 import signal
 import traceback
-from types import TracebackType
-from typing import Callable, NoReturn, Optional
+from types import FrameType, TracebackType
+from typing import TYPE_CHECKING, Callable, NoReturn, Optional
 
 from .errors import COULD_NOT, FAULT, INTERRUPTED, NEXT, Refused, note
 from .printing import Closed, Mute, say_aside, shown
 from .progress import PROGRESS
+
+if TYPE_CHECKING:
+    from sys import UnraisableHookArgs
 
 DEBUG = "--debug"  # a word of each tool: shows where a fault of the tool is
 CUT = 300  # signs of what an exception says
@@ -108,8 +114,25 @@ def unexpected(_: type[BaseException], why: BaseException, __: Optional[Tracebac
     os._exit(told(why))  # pylint: disable=protected-access
 
 
+def unseen(it: "UnraisableHookArgs") -> None:
+    """What is raised where no caller sees it, as while a value is taken away: an interrupt counts, and a fault is a line."""
+    why = it.exc_value
+    if why is not None and not isinstance(why, Exception):
+        os._exit(told(why))  # pylint: disable=protected-access
+    if why is not None:
+        note(fault_text(why))
+
+
+def interrupted(_number: int, _frame: Optional[FrameType]) -> NoReturn:
+    """Ctrl-C ends what runs; a second one ends the process while that is put back."""
+    signal.signal(signal.SIGINT, signal.SIG_DFL)
+    raise KeyboardInterrupt
+
+
 def leave(status: int) -> NoReturn:
     """Ends the process; what the standard streams still hold was told of, or is for nobody."""
+    if signal.getsignal(signal.SIGINT) is not signal.SIG_IGN:
+        signal.signal(signal.SIGINT, signal.SIG_DFL)
     PROGRESS.clear()
     for number, name in ((1, "stdout"), (2, "stderr")):
         try:
@@ -125,10 +148,10 @@ def main_of(run: Run, about: Optional[str] = None) -> NoReturn:
     words = sys.argv[1:]
     wants_help = about is not None and words[:1] in (["-h"], ["--help"])
     if signal.getsignal(signal.SIGINT) is signal.SIG_DFL:
-        signal.signal(signal.SIGINT, signal.default_int_handler)
+        signal.signal(signal.SIGINT, interrupted)
     leave(ended(lambda some: print((about or "").strip()) if wants_help else run(some), words))
 
 
 if IS_PROGRAM:
     fill_descriptors()
-    sys.excepthook = unexpected
+    sys.excepthook, sys.unraisablehook = unexpected, unseen

@@ -13,7 +13,7 @@ from .building import Build
 TOP = pathlib.Path(__file__).resolve().parents[2]
 PROVED = TOP / "crates/fcoe_tool/out/fcoe_tool"
 PROGRAM = "fcoe_tool"
-TOOLS = ("look", "zones", "annotate", "bound", "ladder", "readdress", "live", "scenes", "fcoe_host", "load")
+TOOLS = ("look", "zones", "annotate", "bound", "ladder", "readdress", "live", "scenes", "fcoe_host", "load", "vm")
 PAGES = ("docs/JOURNAL.md",)  # that the tools read
 HOME = "share/wegcapho"  # of all files; what stands elsewhere are links to them
 MADE = "MADE"  # how the program was made

@@ -146,6 +146,11 @@ def demo(book: Book) -> None:
 
 def drawn(book: Book, bridges: int, nodes: int) -> None:
     """Bridges and nodes of random captures, with what the models say."""
+    drawn_bridges(book, bridges)
+    drawn_nodes(book, nodes)
+
+
+def drawn_bridges(book: Book, bridges: int) -> None:
     book.title("snoop over drawn captures: the answers are those of a model")
     for seed in range(bridges):
         dice = random.Random(seed)
@@ -165,6 +170,9 @@ def drawn(book: Book, bridges: int, nodes: int) -> None:
         except Fault as why:
             book.run(words, f"{why.line}\n", why.status)
             book.see(**{name: None for name in names})
+
+
+def drawn_nodes(book: Book, nodes: int) -> None:
     book.title("enode over drawn captures: the answers are those of a model")
     for seed in range(nodes):
         dice = random.Random(seed)

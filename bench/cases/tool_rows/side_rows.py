@@ -31,6 +31,13 @@ def bridged(book: Book, made: Worked, **more: Union[str, bytes]) -> None:
 
 def bridges(book: Book) -> None:
     book.title("snoop: which way frames go (FC-BB-5, FIP snooping bridges)")
+    bridges_of_logins(book)
+    bridges_of_a_span(book)
+    bridges_with_faults(book)
+    bridges_by_words(book)
+
+
+def bridges_of_logins(book: Book) -> None:
     rows_of_logins = (
         ("bridge_binds_at_the_answer", ("plain", LOGGED_IN), "passed 3 dropped 1"),
         ("bridge_forgets_at_clear", ("plain", LOGGED_IN, CLEARED), "passed 4 dropped 2"),
@@ -41,6 +48,9 @@ def bridges(book: Book) -> None:
         bridged(book, made)
         book.run(SNOOP, f"{line}\n", 0)
         book.see(X=worked("plain", LOGGED_IN).came(2), Y=made.left(1), Z=HEAD)
+
+
+def bridges_of_a_span(book: Book) -> None:
     first = "> 1000 2 vlan-request 0a\n"
     for moment, line, status in ((21_601_000, "passed 2 dropped 0", 0), (21_601_001, "limit span 21600000", 6)):
         book.case("span_of_all_captures")
@@ -49,6 +59,9 @@ def bridges(book: Book) -> None:
         book.run(SNOOP, f"{line}\n", status)
         both = HEAD + record(1, 0, named("vlan-request", 0x0A)) + record(moment // 1000, 0, named("vlan-request", 0x0B))
         book.see(X=None if status else both)
+
+
+def bridges_with_faults(book: Book) -> None:
     made = worked("plain")
     rows: list[tuple[Union[str, bytes], str, str, str]] = [(b"vlan 1\n", "request-99", "config 2 missing", "the configuration's comes first")]
     rows += [("plain", "request-99", "capture 1 24 cut", "then that of port 1"), ("plain", "request", "capture 2 0 short", "then that of port 2")]
@@ -62,6 +75,10 @@ def bridges(book: Book) -> None:
     book.fail(13)
     book.run(SNOOP, "write fault\n", 4)
     book.see(X=b"", Y=None)
+
+
+def bridges_by_words(book: Book) -> None:
+    made = worked("plain")
     for count in (1, 2, 64, 65):
         book.case("two_to_sixty_four_pairs", f"{count} pairs")
         names = [f"I{port}" for port in range(count)]

@@ -24,8 +24,8 @@ use Rattle.fab_policy.proofs.Quiet.{legal_is_quiet}
 use Rattle.fab_policy.proofs.Sound.{legal_is_sound}
 use Rattle.fab_policy.proofs.SoundFree.{grants_are_free}
 use Rattle.fab_policy.proofs.SoundMacs.{live_macs_differ}
-use Rattle.fab_gather.specs.Looks as looks
-use Rattle.fab_gather.specs.Looks.{Opened}
+use Rattle.window_records.specs.Looks as looks
+use Rattle.window_records.specs.Looks.{Opened}
 use Rattle.fab_replay.proofs.OneLemmas.{same_frames}
 use Rattle.fab_windows.specs.Run.{IsRunOver}
 use Rattle.fip_snoop.specs.Bridge as bridge

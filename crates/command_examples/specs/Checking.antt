@@ -7,14 +7,14 @@ use Rattle.pcap_file.specs.Capture as captures
 use Rattle.pcap_file.specs.Capture.{HEAD, head_decoded, head_bytes}
 use Rattle.fab_policy.specs.Journal.{Journal, followed}
 use Rattle.fab_policy.specs.Legal.{Run}
-use Rattle.fab_gather.specs.Looks as looks
+use Rattle.window_records.specs.Looks as looks
 use Rattle.fab_policy.specs.State.{tables_of, overdue, now_of}
 use Rattle.fab_policy.specs.Text as text
 use Rattle.fab_policy.specs.declared.event.Event.{Event}
 use Rattle.fab_policy.specs.declared.event.Event.TheVariants.{Frame}
 use Rattle.fab_policy.specs.declared.verdict.Verdict.TheVariants.{Granted}
 use Rattle.fab_policy.proofs.NamedLemmas.{text_names_journal}
-use Rattle.fab_gather.specs.Reads.{IsWhole}
+use Rattle.window_records.specs.Reads.{IsWhole}
 use Rattle.fab_replay.specs.Check.{NamesRun}
 use Rattle.fab_replay.specs.Showing.{shown}
 use Rattle.fab_replay.proofs.OneLemmas.{same_frames}

@@ -19,8 +19,8 @@ use Rattle.fab_policy.specs.Verdicts as verdicts
 use Rattle.fab_policy.specs.declared.event.Event.TheVariants.{Tick, Frame}
 use Rattle.fab_policy.specs.declared.verdict.Rule.TheVariants as rule
 use Rattle.fab_policy.specs.declared.verdict.Verdict.TheVariants.{Dropped}
-use Rattle.fab_gather.specs.Looks as looks
-use Rattle.fab_gather.specs.Looks.{Opened}
+use Rattle.window_records.specs.Looks as looks
+use Rattle.window_records.specs.Looks.{Opened}
 use Rattle.fab_replay.specs.Front.{HoldsFronts, IsFront}
 use Rattle.fab_replay.specs.Lines as lines
 use Rattle.fab_replay.specs.declared.fault.LineWhy.TheVariants as why

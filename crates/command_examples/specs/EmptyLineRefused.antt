@@ -17,7 +17,7 @@ use Rattle.fabric_tool.specs.Command.{Migrate, Replay, Show}
 use Rattle.fabric_tool.specs.Inputs.{IsOpened}
 use Rattle.fabric_tool.specs.Statuses.{Says}
 use Rattle.fabric_tool.specs.declared.outcome.Outcome.TheVariants as ends
-use Rattle.fab_gather.specs.Looks as looks
+use Rattle.window_records.specs.Looks as looks
 use Rattle.pcap_file.specs.Capture as captures
 use Rattle.pcap_file.specs.Capture.{head_decoded, head_bytes}
 use Rattle.command_examples.specs.ChecksRefused.{with_outputs, NO_OUTPUT, OUTPUT, with_journal, behind_head, matter}

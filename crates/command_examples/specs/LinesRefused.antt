@@ -20,7 +20,7 @@ use Rattle.fab_policy.specs.declared.line.Format.TheVariants.{Two}
 use Rattle.fab_policy.specs.declared.line.Line.TheVariants.{Tick, Frame}
 use Rattle.fab_policy.specs.declared.verdict.Rule.TheVariants as rule
 use Rattle.fab_policy.specs.declared.verdict.Verdict.TheVariants.{Vlans, Dropped}
-use Rattle.fab_gather.specs.Looks as looks
+use Rattle.window_records.specs.Looks as looks
 use Rattle.fab_replay.specs.Front.{IsFront, IsNextFrame}
 use Rattle.fab_replay.specs.Lines as lines
 use Rattle.fab_replay.specs.declared.fault.LineWhy.TheVariants as why

@@ -7,7 +7,7 @@ use Rattle.pcap_file.specs.Reading as reading
 use Rattle.pcap_file.specs.declared.CapFault.TheVariants as heads
 use Rattle.pcap_file.specs.declared.fault.CapWhy.TheVariants as caps
 use Rattle.pcap_file.specs.declared.fault.LimitKind.TheVariants as kinds
-use Rattle.fab_gather.specs.Looks as looks
+use Rattle.window_records.specs.Looks as looks
 use Rattle.fabric_tool.specs.Command.{Run}
 use Rattle.fabric_tool.specs.Statuses.{Says}
 use Rattle.fabric_tool.specs.declared.outcome.Outcome.TheVariants as ends

@@ -5,7 +5,7 @@ use Rattle.fab_config.specs.Text as config
 use Rattle.fab_config.specs.declared.ConfigWhy.TheVariants as faults
 use Rattle.pcap_file.specs.Capture.{head_decoded}
 use Rattle.pcap_file.specs.Capture as captures
-use Rattle.fab_gather.specs.Looks as looks
+use Rattle.window_records.specs.Looks as looks
 use Rattle.fabric_tool.specs.Command.{Run, command}
 use Rattle.fabric_tool.specs.Inputs.{HasConfig, IsOpened, HasInputs, stop_of}
 use Rattle.fabric_tool.specs.Statuses.{IsComplete, IsNamed}

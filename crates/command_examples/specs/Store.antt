@@ -8,7 +8,7 @@ use Rattle.fab_base.specs.Seen.{Seen, Rose}
 use Rattle.fab_base.specs.Sunk.{Sunk}
 use Rattle.fab_config.specs.Settings.{Settings}
 use Rattle.pcap_file.specs.Capture.{head_bytes}
-use Rattle.fab_gather.specs.Looks.{Opened}
+use Rattle.window_records.specs.Looks.{Opened}
 use Rattle.run_files.specs.Names.{Among}
 use Rattle.fabric_tool.specs.Command.{RunNames, Command, command}
 use Rattle.fabric_tool.specs.Ends.{inputs, outputs}

@@ -3,7 +3,7 @@ use Rattle.std.specs.Prelude.{◌≡◌, ℕ, false, List, [], ◌∷◌, ◌++�
 use Rattle.pcap_file.specs.Capture as pcap
 use Rattle.pcap_file.specs.declared.CaptureHead.{CaptureHead}
 use Rattle.pcap_file.specs.Reading as reader
-use Rattle.fab_gather.specs.Looks as looks
+use Rattle.window_records.specs.Looks as looks
 use Rattle.examples.specs.Given.{K, vlan_request}
 
 abbrev pub head : CaptureHead

@@ -5,8 +5,8 @@ use Rattle.pcap_file.specs.Capture as pcap
 use Rattle.pcap_file.specs.declared.CaptureHead.{CaptureHead}
 use Rattle.pcap_file.specs.declared.CapFault.TheVariants.{Short, BadMagic, BadVersion, NotEthernet}
 use Rattle.pcap_file.specs.Reading as reader
-use Rattle.fab_gather.specs.Looks as looks
-use Rattle.fab_gather.specs.Looks.{MOST_SPAN}
+use Rattle.window_records.specs.Looks as looks
+use Rattle.window_records.specs.Looks.{MOST_SPAN}
 use Rattle.fab_policy.specs.Written as written
 use Rattle.examples.specs.Given.{K}
 

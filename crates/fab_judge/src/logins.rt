@@ -10,7 +10,6 @@ ghost use Rattle.fab_judge.specs.Judged.{asker_by, ended_by, judgement_of, HasKi
 ghost use Rattle.fab_judge.specs.Origin.{is_flogi_by, begins_with};
 ghost use Rattle.fab_judge.specs.Rows.{unless_dropped};
 ghost use Rattle.heard_frames.specs.Heard.{fc_of, sender};
-ghost use Rattle.fab_policy.specs.Cause.{plain};
 ghost use Rattle.fab_policy.specs.Free.{has_free, is_free};
 ghost use Rattle.fab_policy.specs.Rules as rules;
 ghost use Rattle.fab_policy.specs.State.{port_at};
@@ -57,8 +56,8 @@ pub(crate) fn judge_login(
 ) -> Result<Judged<'static>, NoMemory>
     ensures judged { IfOk result (λ j. let message
         = fip.Login asked.now.kind asked.now.fp frame.now asked.now.mac in
-        judgement_of j ≡ unless_dropped ((rules.is_unreadable message, plain Rule.ElsShort)
-        ∷ (rules.is_wrong_login message, plain Rule.ElsKind) ∷ [])
+        judgement_of j ≡ unless_dropped (rules.fip_login_rows config.now roster.now.tables
+        from.now.port from.now.caught message)
         (verdicts.frame_judged config.now roster.now.tables from.now.port from.now.caught
         asked.now.fp asked.now.kind (fc_of frame.now) asked.now.mac)) }
     ensures grounds { IfOk result (λ j. Rests config.now roster.now.tables

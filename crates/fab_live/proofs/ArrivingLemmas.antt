@@ -11,8 +11,8 @@ use Rattle.fab_policy.specs.Legal.{of_port, numbered_from, window_start}
 use Rattle.fab_base.specs.Counting.{counting}
 use Rattle.fab_policy.specs.Standing.{Contents}
 use Rattle.fab_policy.specs.declared.event.Event.{Event}
-use Rattle.fab_gather.specs.Laws.{AllIn, HasSome}
-use Rattle.fab_gather.specs.Port.{AreIn}
+use Rattle.window_records.specs.Laws.{AllIn, HasSome}
+use Rattle.window_records.specs.Port.{AreIn}
 use Rattle.fab_shared.specs.Handled.{HandledPort, HoldBatches, Handled}
 use Rattle.pcapng_file.specs.Classic.{recorded}
 use Rattle.fab_live.specs.Arriving.{arrive, arrived, greatest_of, of_face, port_records, records_of}

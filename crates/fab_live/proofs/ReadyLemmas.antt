@@ -14,7 +14,7 @@ use Rattle.fab_policy.specs.Legal.{window_start}
 use Rattle.fab_policy.specs.Outputs.{State}
 use Rattle.fab_policy.specs.Standing.{Contents}
 use Rattle.fab_policy.specs.declared.event.Event.{Event}
-use Rattle.fab_gather.proofs.SlotLemmas.{some_is, item_at}
+use Rattle.window_records.proofs.SlotLemmas.{some_is, item_at}
 use Rattle.fab_sending.specs.Message.{sent_of}
 use Rattle.fab_sending.specs.declared.message.Out.{Out}
 use Rattle.fab_pages.specs.Pages.{AreEarly}

@@ -14,7 +14,7 @@ use Rattle.fab_policy.specs.Standing.{Contents}
 use Rattle.fab_policy.specs.State.{now_of}
 use Rattle.fab_policy.specs.declared.event.Event.{Event}
 use Rattle.fab_states.specs.Written.{piece_records, piece_text}
-use Rattle.fab_gather.specs.Looks.{is_too_late}
+use Rattle.window_records.specs.Looks.{is_too_late}
 use Rattle.fab_sending.specs.Message.{sent_of}
 use Rattle.fab_sending.specs.declared.message.Out.{Out}
 use Rattle.run_files.specs.Pages.{items_in, piece_at}

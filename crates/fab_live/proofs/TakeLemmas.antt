@@ -9,10 +9,10 @@ use Rattle.pcapng_file.specs.declared.NgRecord.{NgRecord}
 use Rattle.pcapng_file.specs.File.{IsPacketKept, AreKept}
 use Rattle.pcapng_file.specs.Classic.{classic_record, classic_records}
 use Rattle.fab_policy.specs.Legal.{window_start}
-use Rattle.fab_gather.specs.Looks.{is_too_late}
+use Rattle.window_records.specs.Looks.{is_too_late}
 use Rattle.fab_policy.specs.Standing.{Contents}
-use Rattle.fab_gather.proofs.SlotLemmas.{some_is, get_set_same, get_set_other}
-use Rattle.fab_gather.proofs.WindowLemmas.{window_start-mono}
+use Rattle.window_records.proofs.SlotLemmas.{some_is, get_set_same, get_set_other}
+use Rattle.window_records.proofs.WindowLemmas.{window_start-mono}
 use Rattle.fab_live.specs.Arriving.{arrive, arrived, greatest_of, of_face, AllFaces, first_start, NoneTooLate, IsInSpan}
 use Rattle.fab_live.specs.Files.{GrowsAt}
 use Rattle.fab_live.specs.From.{reach}

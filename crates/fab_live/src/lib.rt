@@ -9,10 +9,10 @@ mod handling;
 mod live;
 mod run;
 
-pub use fab_gather::LimitKind;
 pub use fab_windows::Done;
 pub use fault::LiveFault;
 pub use files::LiveFiles;
 pub use from::packets_go_on;
 pub use pcapng_file::NgWhy;
 pub use run::run_live;
+pub use window_records::LimitKind;

@@ -2,7 +2,7 @@
 ghost use Rattle.std.specs.Prelude.{◌≡◌, ◌+◌, ◌-◌, ◌<◌, ◌^◌, ◌++◌, ◌∷◌, [], List, Some, length, max, min, MatchResult, IfOk, OnOk, OnErr, ℕ};
 ghost use Rattle.fab_config.specs.Settings.{Settings};
 ghost use Rattle.fab_policy.specs.Journal.{Journal};
-ghost use Rattle.fab_gather.specs.Looks as looks;
+ghost use Rattle.window_records.specs.Looks as looks;
 ghost use Rattle.pcapng_file.specs.Classic.{classic_record};
 ghost use Rattle.pcapng_file.specs.File.{IsPacketKept};
 ghost use Rattle.pcapng_file.specs.declared.NgRecord as of_stream;
@@ -18,7 +18,6 @@ use crate::files::write_packet;
 use crate::handling::handle;
 use crate::{Done, LimitKind, LiveFault, LiveFiles};
 use fab_base::{Depot, Moment, NoMemory, PortNo};
-use fab_gather::window_start;
 use fab_pages::Sendings;
 use fab_windows::{Pages, runs_go_on};
 use forward_core::Fabric;
@@ -26,6 +25,7 @@ use pcap_file::MOST_SPAN;
 use pcapng_file::{NgRecord, add_packet};
 use std::alloc::Global;
 use std::thread::Threads;
+use window_records::window_start;
 
 /// What a forwarder that runs keeps: the fabric, how many packets each port had, the first window
 /// and the greatest time so far, how many frames and entries there were, and the pages, which are

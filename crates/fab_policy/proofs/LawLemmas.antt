@@ -1,5 +1,5 @@
 -- A judgement by the decoders against the same by the layout and the grammar.
-use Rattle.std.proofs.Common.{◌≡◌, ℕ, zero, suc, lit<, ◌⊎◌, inl, inr, ⊎_elim, nat_lt, ltb, ◌==◌, ◌&&◌, ◌||◌, not, if◌then◌else◌, Bool, true, false, List, [], ◌∷◌, length, Option, Some, None, Result, Ok, Err, refl, sym, ap, subst, ◌∙◌, arith}
+use Rattle.std.proofs.Common.{◌≡◌, ℕ, zero, suc, lit<, ◌⊎◌, inl, inr, ⊎_elim, nat_lt, ltb, ◌==◌, ◌&&◌, ◌||◌, not, if◌then◌else◌, Bool, true, false, List, [], ◌∷◌, length, drop, Option, Some, None, Result, Ok, Err, refl, sym, ap, subst, ◌∙◌, arith}
 use Rattle.std.specs.List.{AllPass}
 use Rattle.std.proofs.lemmas.Slice.Eq.{bytes_eq-Decides}
 use Rattle.std.proofs.lemmas.Bool.{or_cases, ltb-true, ltb-false, eqb-true, eqb-false, eq-eqb}
@@ -29,12 +29,14 @@ use Rattle.heard_frames.specs.Heard.{What, Bad, Fip, Fcoe, FIP, FCOE, decoded, f
 use Rattle.heard_frames.specs.declared.unreadable.Unreadable.TheVariants as unreadable
 use Rattle.fab_policy.specs.Laws.{AsksVlans, Solicits}
 use Rattle.heard_frames.specs.Rows.{first_row, is_wrong_vlan, ALL_FCFS}
-use Rattle.fab_policy.specs.Rules.{rule_for, holds}
+use Rattle.fab_policy.specs.Rules.{rule_for, fip_rows, holds}
 use Rattle.fab_policy.specs.State.{Tables, port_at}
 use Rattle.fab_policy.specs.Verdicts.{Judgement, Must, MayGrant, Meets, IsRight, judged, message_judged, frame_judged, login_judged, login_rows, request_of, unless_refused, is_own_logout, fcoe_judged}
 use Rattle.fab_policy.specs.declared.verdict.Verdict.{Verdict}
 use Rattle.fab_policy.specs.declared.verdict.Verdict.TheVariants.{Vlans, Advertised, Logout, AliveNode, AlivePort, Dropped}
+use Rattle.fab_policy.specs.declared.verdict.Rule.{Rule}
 use Rattle.fab_policy.specs.declared.verdict.Rule.TheVariants as rule
+use Rattle.fab_policy.proofs.RuleLemmas.{test_of, test_false}
 use Rattle.fab_policy.proofs.FcoeJudged.{IsOfFcoe, refused_or, body_of_fcoe}
 
 -- ---- bytes
@@ -148,7 +150,7 @@ judged_is : (c : Settings) (T : Tables) (port : ℕ) (caught : Caught) → judge
 unfolding judged
 judged_is c T port caught = refl
 
--- the rows on the frame itself, with those on what it carries and on who is logged in behind them
+-- the first four rows on the frame itself, with all others behind them
 abbrev frame_rows : Bool → Bool → Bool → Bool → List (Bool × Cause) → List (Bool × Cause)
 frame_rows a b d e more = (a, plain rule.Vlan) ∷ (b, plain rule.FipDest) ∷ (d, plain rule.FipRole) ∷ (e, plain rule.FipMac) ∷ more
 
@@ -162,22 +164,16 @@ answer (MayGrant r) = None
 abbrev Answers : Verdict → Type 0
 Answers v = answer (Must v) ≡ None → ⊥
 
-none_holds : (a b d e : Bool) (more : List (Bool × Cause)) (v : Verdict) → Answers v → by_rule (first_row (frame_rows a b d e more)) (Must v) ≡ Must v →
-    (a ≡ false) × (b ≡ false) × (d ≡ false) × (e ≡ false)
-none_holds true b d e more v h is = absurd (h (sym (ap answer is)))
-none_holds false true d e more v h is = absurd (h (sym (ap answer is)))
-none_holds false false true e more v h is = absurd (h (sym (ap answer is)))
-none_holds false false false true more v h is = absurd (h (sym (ap answer is)))
-none_holds false false false false more v h is = (refl, refl, refl, refl)
+not_dropped : (o : Option Cause) (v : Verdict) → Answers v → by_rule o (Must v) ≡ Must v → o ≡ None
+not_dropped None v h is = refl
+not_dropped (Some cause) v h is = absurd (h (sym (ap answer is)))
 
--- a message that no row on logins concerns
-abbrev no_logins : List (Bool × Cause)
-no_logins = (false, plain rule.ElsShort) ∷ (false, plain rule.ElsKind) ∷ (false, plain rule.KeepaliveUnknown) ∷ []
-
-passes : (a b d e : Bool) (v : Verdict) → a ≡ false → b ≡ false → d ≡ false → e ≡ false → by_rule (first_row (frame_rows a b d e no_logins)) (Must v) ≡ Must v
-passes a b d e v p q r s =
-    ap (λ x. by_rule (first_row (frame_rows x b d e no_logins)) (Must v)) p ∙ ap (λ x. by_rule (first_row (frame_rows false x d e no_logins)) (Must v)) q
-    ∙ ap (λ x. by_rule (first_row (frame_rows false false x e no_logins)) (Must v)) r ∙ ap (λ x. by_rule (first_row (frame_rows false false false x no_logins)) (Must v)) s
+passes : (a b d e : Bool) (more : List (Bool × Cause)) (v : Verdict) → a ≡ false → b ≡ false → d ≡ false → e ≡ false → first_row more ≡ None →
+    by_rule (first_row (frame_rows a b d e more)) (Must v) ≡ Must v
+passes a b d e more v p q r s none =
+    ap (λ x. by_rule (first_row (frame_rows x b d e more)) (Must v)) p ∙ ap (λ x. by_rule (first_row (frame_rows false x d e more)) (Must v)) q
+    ∙ ap (λ x. by_rule (first_row (frame_rows false false x e more)) (Must v)) r ∙ ap (λ x. by_rule (first_row (frame_rows false false false x more)) (Must v)) s
+    ∙ ap (λ o. by_rule o (Must v)) none
 
 -- a frame of another judgement isn't answered so
 otherwise : (o : Option Cause) (j : Judgement) (v : Verdict) → Answers v → (answer j ≡ answer (Must v) → ⊥) → by_rule o j ≡ Must v → ⊥
@@ -276,8 +272,9 @@ record HeardAsk (c : Settings) (what : What) : Type 0 where
 heard_ask : (c : Settings) (T : Tables) (port : ℕ) (caught : Caught) (what : What) → judged_of c T port caught what ≡ Must Vlans → HeardAsk c what
 unfolding rule_for
 heard_ask c T port caught (Fip f (VlanAsk named node)) e =
-    let rows = none_holds (is_wrong_vlan c.vlan f true) (not (is_to c f)) false (not (same_bytes named f.src)) no_logins Vlans vlans_answer e in
-    record { frame = f; named = named; node = node; is = refl; vlan = rows.0; dest = rows.1; source = rows.3 }
+    let rows : List (Bool × Cause) = fip_rows c T port caught f (VlanAsk named node) in
+    let none : (r : Rule) → test_of r rows ≡ false = λ r. test_false r rows (not_dropped (first_row rows) Vlans vlans_answer e) in
+    record { frame = f; named = named; node = node; is = refl; vlan = none rule.Vlan; dest = none rule.FipDest; source = none rule.FipMac }
 heard_ask c T port caught (Fip f (Solicit from_fcf fp mac node size)) e =
     absurd (otherwise (rule_for c T port caught (Fip f (Solicit from_fcf fp mac node size))) (Must Advertised) Vlans vlans_answer (λ w. cc) e)
 heard_ask c T port caught (Fip f m) e = absurd (not_asking c T port caught (Fip f m) Vlans vlans_answer refl e)
@@ -287,7 +284,8 @@ heard_ask c T port caught (Bad fault) e = absurd (not_asking c T port caught (Ba
 ask_judged : (c : Settings) (T : Tables) (port : ℕ) (caught : Caught) (f : Eth) (named : List ℕ) (node : Option ℕ) →
     is_wrong_vlan c.vlan f true ≡ false → not (is_to c f) ≡ false → not (same_bytes named f.src) ≡ false → judged_of c T port caught (Fip f (VlanAsk named node)) ≡ Must Vlans
 unfolding rule_for
-ask_judged c T port caught f named who vlan dest source = passes (is_wrong_vlan c.vlan f true) (not (is_to c f)) false (not (same_bytes named f.src)) Vlans vlan dest refl source
+ask_judged c T port caught f named who vlan dest source =
+    passes (is_wrong_vlan c.vlan f true) (not (is_to c f)) false (not (same_bytes named f.src)) (drop 4 (fip_rows c T port caught f (VlanAsk named who))) Vlans vlan dest refl source refl
 
 pub request_means : (c : Settings) (T : Tables) (port : ℕ) (caught : Caught) → AllPass (λ b. nat_lt b 256) caught.bytes → IsRight c T port caught Vlans → AsksVlans c caught
 request_means c T port caught bytes e =
@@ -336,7 +334,8 @@ record HeardSolicit (c : Settings) (what : What) : Type 0 where
 heard_solicit : (c : Settings) (T : Tables) (port : ℕ) (caught : Caught) (what : What) → judged_of c T port caught what ≡ Must Advertised → HeardSolicit c what
 unfolding rule_for
 heard_solicit c T port caught (Fip f (Solicit from_fcf fp named node size)) e =
-    let rows = none_holds (is_wrong_vlan c.vlan f false) (not (is_to c f)) from_fcf (not (same_bytes named f.src)) no_logins Advertised advertised_answers e in
+    let rows : List (Bool × Cause) = fip_rows c T port caught f (Solicit from_fcf fp named node size) in
+    let none : (r : Rule) → test_of r rows ≡ false = λ r. test_false r rows (not_dropped (first_row rows) Advertised advertised_answers e) in
     record {
       frame = f;
       from_fcf = from_fcf;
@@ -345,10 +344,10 @@ heard_solicit c T port caught (Fip f (Solicit from_fcf fp named node size)) e =
       node = node;
       size = size;
       is = refl;
-      vlan = rows.0;
-      dest = rows.1;
-      role = rows.2;
-      source = rows.3;
+      vlan = none rule.Vlan;
+      dest = none rule.FipDest;
+      role = none rule.FipRole;
+      source = none rule.FipMac;
     }
 heard_solicit c T port caught (Fip f (VlanAsk named node)) e =
     absurd (otherwise (rule_for c T port caught (Fip f (VlanAsk named node))) (Must Vlans) Advertised advertised_answers (λ w. cc) e)
@@ -359,7 +358,8 @@ heard_solicit c T port caught (Bad fault) e = absurd (not_asking c T port caught
 solicit_judged : (c : Settings) (T : Tables) (port : ℕ) (caught : Caught) (f : Eth) (fp : Bool) (named : List ℕ) (node size : ℕ) →
     is_wrong_vlan c.vlan f false ≡ false → not (is_to c f) ≡ false → not (same_bytes named f.src) ≡ false → judged_of c T port caught (Fip f (Solicit false fp named node size)) ≡ Must Advertised
 unfolding rule_for
-solicit_judged c T port caught f fp named node size vlan dest source = passes (is_wrong_vlan c.vlan f false) (not (is_to c f)) false (not (same_bytes named f.src)) Advertised vlan dest refl source
+solicit_judged c T port caught f fp named node size vlan dest source =
+    passes (is_wrong_vlan c.vlan f false) (not (is_to c f)) false (not (same_bytes named f.src)) (drop 4 (fip_rows c T port caught f (Solicit false fp named node size))) Advertised vlan dest refl source refl
 
 -- either the VLAN is right, or nothing
 or_false : (a b : Bool) → (a || (false && b)) ≡ true → a ≡ true

@@ -1,6 +1,7 @@
 pub mod LineLemmas
 pub mod Live
 pub mod WordLemmas
+pub mod RuleLemmas
 pub mod SpellingLemmas
 pub mod NamedLemmas
 pub mod ReadLemmas

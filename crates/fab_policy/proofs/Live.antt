@@ -40,6 +40,7 @@ use Rattle.fab_policy.specs.declared.verdict.Verdict.TheVariants.{Granted, Rejec
 use Rattle.fab_policy.specs.declared.verdict.Rule.TheVariants as rule
 use Rattle.fab_policy.proofs.Carried.{bodies_are_carried}
 use Rattle.fab_policy.proofs.Found.{found_address}
+use Rattle.fab_policy.proofs.RuleLemmas.{test_false}
 use Rattle.fab_policy.proofs.Steps.{live_addressed}
 
 true_is_false : true ≡ false → ⊥
@@ -479,23 +480,16 @@ answers_live c J port index caught l =
           (answer_live J (known_to c T there.asker) there.ask (known_live c J there.asker) there.query there.free),
     )
 
--- where no row drops a frame, the one of its source doesn't
-fifth_row : (vlan class dest mac : Bool) (o : Option LivePort) (rows : List (Bool × Cause)) →
-    first_row ((vlan, plain rule.Vlan) ∷ (class, plain rule.FcoeClass) ∷ (dest, plain rule.FcoeDest) ∷ (mac, plain rule.SourceMac) ∷ (not (is_some o), plain rule.SourceLogin) ∷ rows) ≡ None →
-    (p : LivePort) × (o ≡ Some p)
-fifth_row true class dest mac o rows e = absurd cc
-fifth_row false true dest mac o rows e = absurd cc
-fifth_row false false true mac o rows e = absurd cc
-fifth_row false false false true o rows e = absurd cc
-fifth_row false false false false None rows e = absurd cc
-fifth_row false false false false (Some p) rows e = (p, refl)
+there_by : {X : Type 0} (o : Option X) → not (is_some o) ≡ false → (x : X) × (o ≡ Some x)
+there_by None e = absurd cc
+there_by (Some x) e = (x, refl)
 
+-- where no row drops a frame, the one of its source doesn't
 source_there : (c : Settings) (T : Tables) (port : ℕ) (caught : Caught) (f : eth.Eth) (x : capsule.Fcoe) → rule_for c T port caught (Fcoe f (Ok x)) ≡ None →
     (p : LivePort) × (port_at x.frame.head.s_id T.ports ≡ Some p)
 unfolding rule_for
 source_there c T port caught f x e =
-    fifth_row (is_wrong_vlan c.vlan f false) (not (is_class3 x)) (not (same_bytes f.dst c.fcf_mac)) (not (same_bytes f.src (granted_mac c x.frame.head.s_id))) (port_at x.frame.head.s_id T.ports)
-    (drop 4 (fcoe_rows c T port f x)) e
+    there_by (port_at x.frame.head.s_id T.ports) (test_false rule.SourceLogin ((is_wrong_vlan c.vlan f false, plain rule.Vlan) ∷ fcoe_rows c T port f x) e)
 
 -- ---- a frame that goes on
 

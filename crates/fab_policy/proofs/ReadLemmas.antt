@@ -7,10 +7,10 @@ use Rattle.std.proofs.lemmas.Str.{IsUtf8-from_ascii}
 use Rattle.std.proofs.lemmas.Str.Parse.{digit_at, numerals_by_value, tells_digits, without_leading_plus_none}
 use Rattle.std.specs.Str.{IsUtf8}
 use Rattle.fab_policy.specs.Private.LineWords.{Finds, is_inside, IsShortest, IsWord, SpellNone}
-use Rattle.fab_policy.specs.Text.{rule_word}
+use Rattle.fab_policy.specs.Text.{ALL_RULES, rule_word}
 use Rattle.fab_base.specs.Texts.{hex, hex_digit}
 use Rattle.fab_policy.specs.declared.verdict.Rule.{Rule}
-use Rattle.fab_policy.specs.declared.verdict.Rule.TheVariants as rule
+use Rattle.fab_policy.proofs.RuleLemmas.{none_of_all}
 use Rattle.fab_policy.proofs.WordLemmas.{inside_append}
 
 -- ---- numbers
@@ -145,47 +145,7 @@ none_one_more rules w text i r here before is not =
     let P : List Rule → Type 0 = λ l. SpellNone l w in
     subst P (sym (take_more rules i r here)) (none_more (take i rules) w (get_or rules i r) before (λ e. not (e ∙ sym is)))
 
-abbrev pub all_rules : List Rule
-all_rules = rule.Truncated ∷ rule.EthShort ∷ rule.Ethertype ∷ rule.FipShort ∷ rule.FipVersion ∷ rule.FipOperation ∷ rule.FipList ∷ rule.FipLength ∷ rule.FipCritical ∷ rule.FipDouble ∷ rule.FipMissing ∷ rule.Vlan ∷ rule.FipDest ∷ rule.FipRole ∷ rule.FipMac ∷ rule.ElsShort ∷ rule.ElsKind ∷ rule.KeepaliveUnknown ∷ rule.FcoeLength ∷ rule.FcoeVersion ∷ rule.FcoeSof ∷ rule.FcoeEof ∷ rule.FcoeCrc ∷ rule.FcoeClass ∷ rule.FcoeDest ∷ rule.SourceMac ∷ rule.SourceLogin ∷ rule.SourcePort ∷ rule.ServiceAddress ∷ rule.ServiceFrame ∷ rule.CtShort ∷ rule.OwnAddress ∷ rule.DestLogin ∷ rule.Zone ∷ []
-
--- a word that is spelled by none of all rules is that of no rule
-pub none_of_all : (w : List ℕ) → SpellNone all_rules w → (r : Rule) → w ≡ rule_word r → ⊥
-none_of_all w none rule.Truncated e = none.0 e
-none_of_all w none rule.EthShort e = none.1.0 e
-none_of_all w none rule.Ethertype e = none.1.1.0 e
-none_of_all w none rule.FipShort e = none.1.1.1.0 e
-none_of_all w none rule.FipVersion e = none.1.1.1.1.0 e
-none_of_all w none rule.FipOperation e = none.1.1.1.1.1.0 e
-none_of_all w none rule.FipList e = none.1.1.1.1.1.1.0 e
-none_of_all w none rule.FipLength e = none.1.1.1.1.1.1.1.0 e
-none_of_all w none rule.FipCritical e = none.1.1.1.1.1.1.1.1.0 e
-none_of_all w none rule.FipDouble e = none.1.1.1.1.1.1.1.1.1.0 e
-none_of_all w none rule.FipMissing e = none.1.1.1.1.1.1.1.1.1.1.0 e
-none_of_all w none rule.Vlan e = none.1.1.1.1.1.1.1.1.1.1.1.0 e
-none_of_all w none rule.FipDest e = none.1.1.1.1.1.1.1.1.1.1.1.1.0 e
-none_of_all w none rule.FipRole e = none.1.1.1.1.1.1.1.1.1.1.1.1.1.0 e
-none_of_all w none rule.FipMac e = none.1.1.1.1.1.1.1.1.1.1.1.1.1.1.0 e
-none_of_all w none rule.ElsShort e = none.1.1.1.1.1.1.1.1.1.1.1.1.1.1.1.0 e
-none_of_all w none rule.ElsKind e = none.1.1.1.1.1.1.1.1.1.1.1.1.1.1.1.1.0 e
-none_of_all w none rule.KeepaliveUnknown e = none.1.1.1.1.1.1.1.1.1.1.1.1.1.1.1.1.1.0 e
-none_of_all w none rule.FcoeLength e = none.1.1.1.1.1.1.1.1.1.1.1.1.1.1.1.1.1.1.0 e
-none_of_all w none rule.FcoeVersion e = none.1.1.1.1.1.1.1.1.1.1.1.1.1.1.1.1.1.1.1.0 e
-none_of_all w none rule.FcoeSof e = none.1.1.1.1.1.1.1.1.1.1.1.1.1.1.1.1.1.1.1.1.0 e
-none_of_all w none rule.FcoeEof e = none.1.1.1.1.1.1.1.1.1.1.1.1.1.1.1.1.1.1.1.1.1.0 e
-none_of_all w none rule.FcoeCrc e = none.1.1.1.1.1.1.1.1.1.1.1.1.1.1.1.1.1.1.1.1.1.1.0 e
-none_of_all w none rule.FcoeClass e = none.1.1.1.1.1.1.1.1.1.1.1.1.1.1.1.1.1.1.1.1.1.1.1.0 e
-none_of_all w none rule.FcoeDest e = none.1.1.1.1.1.1.1.1.1.1.1.1.1.1.1.1.1.1.1.1.1.1.1.1.0 e
-none_of_all w none rule.SourceMac e = none.1.1.1.1.1.1.1.1.1.1.1.1.1.1.1.1.1.1.1.1.1.1.1.1.1.0 e
-none_of_all w none rule.SourceLogin e = none.1.1.1.1.1.1.1.1.1.1.1.1.1.1.1.1.1.1.1.1.1.1.1.1.1.1.0 e
-none_of_all w none rule.SourcePort e = none.1.1.1.1.1.1.1.1.1.1.1.1.1.1.1.1.1.1.1.1.1.1.1.1.1.1.1.0 e
-none_of_all w none rule.ServiceAddress e = none.1.1.1.1.1.1.1.1.1.1.1.1.1.1.1.1.1.1.1.1.1.1.1.1.1.1.1.1.0 e
-none_of_all w none rule.ServiceFrame e = none.1.1.1.1.1.1.1.1.1.1.1.1.1.1.1.1.1.1.1.1.1.1.1.1.1.1.1.1.1.0 e
-none_of_all w none rule.CtShort e = none.1.1.1.1.1.1.1.1.1.1.1.1.1.1.1.1.1.1.1.1.1.1.1.1.1.1.1.1.1.1.0 e
-none_of_all w none rule.OwnAddress e = none.1.1.1.1.1.1.1.1.1.1.1.1.1.1.1.1.1.1.1.1.1.1.1.1.1.1.1.1.1.1.1.0 e
-none_of_all w none rule.DestLogin e = none.1.1.1.1.1.1.1.1.1.1.1.1.1.1.1.1.1.1.1.1.1.1.1.1.1.1.1.1.1.1.1.1.0 e
-none_of_all w none rule.Zone e = none.1.1.1.1.1.1.1.1.1.1.1.1.1.1.1.1.1.1.1.1.1.1.1.1.1.1.1.1.1.1.1.1.1.0 e
-
 -- what was found among all rules
-pub rule_found : (w : List ℕ) (r : Option Rule) → IfSome r (λ q. w ≡ rule_word q) → IfNone r (SpellNone all_rules w) → Finds (λ q. w ≡ rule_word q) r
+pub rule_found : (w : List ℕ) (r : Option Rule) → IfSome r (λ q. w ≡ rule_word q) → IfNone r (SpellNone ALL_RULES w) → Finds (λ q. w ≡ rule_word q) r
 rule_found w None some none = none_of_all w none
 rule_found w (Some r) some none = some

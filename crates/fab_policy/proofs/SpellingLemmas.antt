@@ -9,6 +9,7 @@ use Rattle.fab_config.specs.Settings.{same_bytes}
 use Rattle.fab_policy.specs.Ranged.{IsAddress, IsRangedVerdict}
 use Rattle.fab_policy.specs.Spelling.{line_text, IsRangedLine, HasClockOf, LinesAreUnique}
 use Rattle.fab_policy.specs.Private.LineWords.{IsWord, rest_of, number_words, verdict_words}
+use Rattle.fab_policy.proofs.RuleLemmas.{rule_named, rule_named-word}
 use Rattle.fab_policy.proofs.WordLemmas.{text_of}
 use Rattle.fab_policy.specs.Text.{LINE_FEED, then_word, address_word, address_words, code_word, rule_word, cause_text, verdict_text, frame_words}
 use Rattle.fab_policy.specs.declared.line.Format.{Format}
@@ -81,39 +82,7 @@ line_is_words Two (Frame port index v clock) =
 
 rule_inside : (r : Rule) → IsWord (rule_word r)
 rule_inside rule.Truncated = refl
-rule_inside rule.EthShort = refl
-rule_inside rule.Ethertype = refl
-rule_inside rule.FipShort = refl
-rule_inside rule.FipVersion = refl
-rule_inside rule.FipOperation = refl
-rule_inside rule.FipList = refl
-rule_inside rule.FipLength = refl
-rule_inside rule.FipCritical = refl
-rule_inside rule.FipDouble = refl
-rule_inside rule.FipMissing = refl
-rule_inside rule.Vlan = refl
-rule_inside rule.FipDest = refl
-rule_inside rule.FipRole = refl
-rule_inside rule.FipMac = refl
-rule_inside rule.ElsShort = refl
-rule_inside rule.ElsKind = refl
-rule_inside rule.KeepaliveUnknown = refl
-rule_inside rule.FcoeLength = refl
-rule_inside rule.FcoeVersion = refl
-rule_inside rule.FcoeSof = refl
-rule_inside rule.FcoeEof = refl
-rule_inside rule.FcoeCrc = refl
-rule_inside rule.FcoeClass = refl
-rule_inside rule.FcoeDest = refl
-rule_inside rule.SourceMac = refl
-rule_inside rule.SourceLogin = refl
-rule_inside rule.SourcePort = refl
-rule_inside rule.ServiceAddress = refl
-rule_inside rule.ServiceFrame = refl
-rule_inside rule.CtShort = refl
-rule_inside rule.OwnAddress = refl
-rule_inside rule.DestLogin = refl
-rule_inside rule.Zone = refl
+rule_inside _ = refl
 
 number_inside : (n : Option ℕ) → IfSome n (λ m. m < 2 ^ 32) → AreWords (number_words n)
 number_inside None small = tt
@@ -157,78 +126,6 @@ line_inside One (Frame port index v clock) ranged = frame_inside port index v ra
 line_inside Two (Frame port index v clock) ranged = (decimal_inside (unwrap_or clock 0) (clock_inside Two clock ranged.4), frame_inside port index v ranged.1 ranged.2 ranged.3)
 
 -- ---- a total reader of words, which gives back what they were made of
-
-abbrev rule_named : List ℕ → Rule
-rule_named w =
-    cond (same_bytes w (codes "truncated")) rule.Truncated
-    (cond (same_bytes w (codes "eth-short")) rule.EthShort
-    (cond (same_bytes w (codes "ethertype")) rule.Ethertype
-    (cond (same_bytes w (codes "fip-short")) rule.FipShort
-    (cond (same_bytes w (codes "fip-version")) rule.FipVersion
-    (cond (same_bytes w (codes "fip-operation")) rule.FipOperation
-    (cond (same_bytes w (codes "fip-list")) rule.FipList
-    (cond (same_bytes w (codes "fip-length")) rule.FipLength
-    (cond (same_bytes w (codes "fip-critical")) rule.FipCritical
-    (cond (same_bytes w (codes "fip-double")) rule.FipDouble
-    (cond (same_bytes w (codes "fip-missing")) rule.FipMissing
-    (cond (same_bytes w (codes "vlan")) rule.Vlan
-    (cond (same_bytes w (codes "fip-dest")) rule.FipDest
-    (cond (same_bytes w (codes "fip-role")) rule.FipRole
-    (cond (same_bytes w (codes "fip-mac")) rule.FipMac
-    (cond (same_bytes w (codes "els-short")) rule.ElsShort
-    (cond (same_bytes w (codes "els-kind")) rule.ElsKind
-    (cond (same_bytes w (codes "keepalive-unknown")) rule.KeepaliveUnknown
-    (cond (same_bytes w (codes "fcoe-length")) rule.FcoeLength
-    (cond (same_bytes w (codes "fcoe-version")) rule.FcoeVersion
-    (cond (same_bytes w (codes "fcoe-sof")) rule.FcoeSof
-    (cond (same_bytes w (codes "fcoe-eof")) rule.FcoeEof
-    (cond (same_bytes w (codes "fcoe-crc")) rule.FcoeCrc
-    (cond (same_bytes w (codes "fcoe-class")) rule.FcoeClass
-    (cond (same_bytes w (codes "fcoe-dest")) rule.FcoeDest
-    (cond (same_bytes w (codes "source-mac")) rule.SourceMac
-    (cond (same_bytes w (codes "source-login")) rule.SourceLogin
-    (cond (same_bytes w (codes "source-port")) rule.SourcePort
-    (cond (same_bytes w (codes "service-address")) rule.ServiceAddress
-    (cond (same_bytes w (codes "service-frame")) rule.ServiceFrame
-    (cond (same_bytes w (codes "ct-short")) rule.CtShort
-    (cond (same_bytes w (codes "self")) rule.OwnAddress
-    (cond (same_bytes w (codes "dest-login")) rule.DestLogin rule.Zone))))))))))))))))))))))))))))))))
-
-rule_named-word : (r : Rule) → rule_named (rule_word r) ≡ r
-rule_named-word rule.Truncated = refl
-rule_named-word rule.EthShort = refl
-rule_named-word rule.Ethertype = refl
-rule_named-word rule.FipShort = refl
-rule_named-word rule.FipVersion = refl
-rule_named-word rule.FipOperation = refl
-rule_named-word rule.FipList = refl
-rule_named-word rule.FipLength = refl
-rule_named-word rule.FipCritical = refl
-rule_named-word rule.FipDouble = refl
-rule_named-word rule.FipMissing = refl
-rule_named-word rule.Vlan = refl
-rule_named-word rule.FipDest = refl
-rule_named-word rule.FipRole = refl
-rule_named-word rule.FipMac = refl
-rule_named-word rule.ElsShort = refl
-rule_named-word rule.ElsKind = refl
-rule_named-word rule.KeepaliveUnknown = refl
-rule_named-word rule.FcoeLength = refl
-rule_named-word rule.FcoeVersion = refl
-rule_named-word rule.FcoeSof = refl
-rule_named-word rule.FcoeEof = refl
-rule_named-word rule.FcoeCrc = refl
-rule_named-word rule.FcoeClass = refl
-rule_named-word rule.FcoeDest = refl
-rule_named-word rule.SourceMac = refl
-rule_named-word rule.SourceLogin = refl
-rule_named-word rule.SourcePort = refl
-rule_named-word rule.ServiceAddress = refl
-rule_named-word rule.ServiceFrame = refl
-rule_named-word rule.CtShort = refl
-rule_named-word rule.OwnAddress = refl
-rule_named-word rule.DestLogin = refl
-rule_named-word rule.Zone = refl
 
 abbrev one_word : List ℕ → Verdict
 one_word w =

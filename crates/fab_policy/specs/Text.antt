@@ -69,6 +69,15 @@ rule_word rule.OwnAddress = codes "self"
 rule_word rule.DestLogin = codes "dest-login"
 rule_word rule.Zone = codes "zone"
 
+-- all rules, in the order of the tests
+abbrev pub ALL_RULES : List Rule
+ALL_RULES =
+    rule.Truncated ∷ rule.EthShort ∷ rule.Ethertype ∷ rule.FipShort ∷ rule.FipVersion ∷ rule.FipOperation ∷ rule.FipList ∷ rule.FipLength
+    ∷ rule.FipCritical ∷ rule.FipDouble ∷ rule.FipMissing ∷ rule.Vlan ∷ rule.FipDest ∷ rule.FipRole ∷ rule.FipMac ∷ rule.ElsShort ∷ rule.ElsKind
+    ∷ rule.KeepaliveUnknown ∷ rule.FcoeLength ∷ rule.FcoeVersion ∷ rule.FcoeSof ∷ rule.FcoeEof ∷ rule.FcoeCrc ∷ rule.FcoeClass ∷ rule.FcoeDest
+    ∷ rule.SourceMac ∷ rule.SourceLogin ∷ rule.SourcePort ∷ rule.ServiceAddress ∷ rule.ServiceFrame ∷ rule.CtShort ∷ rule.OwnAddress ∷ rule.DestLogin
+    ∷ rule.Zone ∷ []
+
 abbrev pub cause_text : Cause → List ℕ
 cause_text cause = rule_word cause.rule ++ elim cause.number [ None ↦ [] | Some n ↦ then_word (decimal n) ]
 

@@ -6,20 +6,20 @@ use Rattle.fab_base.specs.Ending.{End, Uses}
 use Rattle.fab_base.specs.Seen.{Touches, Nothing}
 use Rattle.fab_base.proofs.SeenLemmas.{touches_wider}
 use Rattle.fab_config.specs.Settings.{Settings}
-use Rattle.fab_gather.specs.Looks.{all_records}
+use Rattle.window_records.specs.Looks.{all_records}
 use Rattle.fab_policy.specs.Standing.{Contents}
 use Rattle.fab_policy.specs.declared.line.Format.{Format}
 use Rattle.pcap_file.specs.declared.Record.{Record}
-use Rattle.fab_gather.specs.declared.shelf.Input.{Input}
-use Rattle.fab_gather.specs.declared.shelf.Shelf.{Shelf}
+use Rattle.window_records.specs.declared.shelf.Input.{Input}
+use Rattle.window_records.specs.declared.shelf.Shelf.{Shelf}
 use Rattle.pcap_file.specs.declared.fault.GatherFault.{GatherFault}
 use Rattle.pcap_file.specs.Faults.{gather_end}
-use Rattle.fab_gather.specs.First.{IsNextWindow, LooksFirst, Start}
+use Rattle.window_records.specs.First.{IsNextWindow, LooksFirst, Start}
 use Rattle.fab_base.specs.Slots.{NameIn}
-use Rattle.fab_gather.specs.Ports.{AreInputs, slots_of, walk_at}
-use Rattle.fab_gather.specs.Walked.{Walked}
-use Rattle.fab_gather.proofs.UsesLemmas.{uses_rose, uses_touches}
-use Rattle.fab_gather.proofs.WalkedLemmas.{walked_first}
+use Rattle.window_records.specs.Ports.{AreInputs, slots_of, walk_at}
+use Rattle.window_records.specs.Walked.{Walked}
+use Rattle.window_records.proofs.UsesLemmas.{uses_rose, uses_touches}
+use Rattle.window_records.proofs.WalkedLemmas.{walked_first}
 use Rattle.fab_replay.specs.FrontFrom.{IsBehindFrom, now_from, text_from}
 use Rattle.fab_replay.specs.Lines.{IsInside}
 use Rattle.fab_replay.specs.Owed.{AreNew}

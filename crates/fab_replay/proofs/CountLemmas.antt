@@ -7,7 +7,7 @@ use Rattle.fab_base.proofs.EndingLemmas.{spares_none, spares_reads_then}
 use Rattle.pcap_file.specs.Faults.{gather_end}
 use Rattle.pcap_file.specs.declared.fault.GatherFault.{GatherFault}
 use Rattle.pcap_file.specs.declared.fault.GatherFault.TheVariants as gather_fault
-use Rattle.fab_gather.proofs.UsesLemmas.{uses_spares, uses_writes}
+use Rattle.window_records.proofs.UsesLemmas.{uses_spares, uses_writes}
 use Rattle.fab_replay.specs.Counts.{check_end}
 use Rattle.fab_replay.specs.Windows.{check_fault}
 use Rattle.fab_replay.specs.declared.fault.CheckFault.{CheckFault}

@@ -11,8 +11,8 @@ use Rattle.fab_replay.specs.AllOutputs.{page_at, AreRead, OneRose, FeedsEach, Fi
 use Rattle.fab_replay.specs.Outputs.{IsRead, GoesPart, Feeds, Finishes}
 use Rattle.fab_replay.proofs.OutputLemmas.{part_none}
 use Rattle.fab_base.specs.Slots.{slot_at, name_of, NameIn}
-use Rattle.fab_gather.specs.Ports.{AreInputs}
-use Rattle.fab_gather.proofs.SlotLemmas.{get_set_same, get_set_other}
+use Rattle.window_records.specs.Ports.{AreInputs}
+use Rattle.window_records.proofs.SlotLemmas.{get_set_same, get_set_other}
 use Rattle.fab_replay.specs.declared.outputs.Compared.{Compared}
 
 -- ---- places in lists

@@ -3,9 +3,9 @@ use Rattle.std.proofs.Common.{◌≡◌, ℕ, Option, Some, None, Ok, Err, sym, 
 use Rattle.std.specs.Prelude.{slice_get}
 use Rattle.fab_config.specs.Settings.{Settings}
 use Rattle.fab_policy.specs.Journal.{Journal}
-use Rattle.fab_gather.specs.Looks.{Stop, all_records}
+use Rattle.window_records.specs.Looks.{Stop, all_records}
 use Rattle.fab_policy.specs.Standing.{Stands}
-use Rattle.fab_gather.specs.Port.{ending}
+use Rattle.window_records.specs.Port.{ending}
 use Rattle.pcap_file.specs.declared.fault.GatherFault.{GatherFault}
 use Rattle.pcap_file.specs.declared.fault.GatherFault.TheVariants as gather_fault
 use Rattle.pcap_file.specs.declared.Budget.{Budget}

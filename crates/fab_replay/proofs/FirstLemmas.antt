@@ -7,11 +7,11 @@ use Rattle.std.proofs.lemmas.Option.{slice_get-map}
 use Rattle.fab_config.specs.Settings.{Settings}
 use Rattle.fab_policy.specs.Growing.{AreFrom}
 use Rattle.fab_policy.specs.Journal.{Journal, followed}
-use Rattle.fab_gather.specs.Keeping.{IsFrom}
+use Rattle.window_records.specs.Keeping.{IsFrom}
 use Rattle.fab_policy.specs.Legal.{HoldsFrames, left_of, of_port, window_start, windows_left}
-use Rattle.fab_gather.specs.Looks.{Opened, Stop, all_records, kept, records_in}
+use Rattle.window_records.specs.Looks.{Opened, Stop, all_records, kept, records_in}
 use Rattle.fab_policy.specs.Spelling.{Spells}
-use Rattle.fab_gather.specs.Looks.{all_kept}
+use Rattle.window_records.specs.Looks.{all_kept}
 use Rattle.fab_policy.specs.declared.event.Event.{Event}
 use Rattle.fab_policy.specs.declared.event.Event.TheVariants as event
 use Rattle.fab_policy.specs.declared.line.Format.{Format}
@@ -19,7 +19,7 @@ use Rattle.fab_policy.specs.declared.line.Line.{Line}
 use Rattle.fab_policy.specs.declared.line.Line.TheVariants.{Frame}
 use Rattle.fab_policy.specs.declared.verdict.Verdict.{Verdict}
 use Rattle.fab_policy.proofs.SpellingLemmas.{line_once}
-use Rattle.fab_gather.proofs.WindowLemmas.{window_start-mono}
+use Rattle.window_records.proofs.WindowLemmas.{window_start-mono}
 use Rattle.pcap_file.proofs.lemmas.Chains.{ascends_on}
 use Rattle.pcap_file.proofs.lemmas.Numbers.{le_or_lt}
 use Rattle.pcap_file.specs.Records.{Ascends}

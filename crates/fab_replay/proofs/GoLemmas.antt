@@ -9,30 +9,30 @@ use Rattle.fab_base.proofs.SeenLemmas.{touches_refl, touches_trans, touches_wide
 use Rattle.fab_config.specs.Settings.{Settings}
 use Rattle.fab_policy.specs.Growing.{with_more}
 use Rattle.fab_policy.specs.Journal.{Journal}
-use Rattle.fab_gather.specs.Keeping.{Splits}
+use Rattle.window_records.specs.Keeping.{Splits}
 use Rattle.fab_policy.specs.Legal.{left_of, numbered_from, of_port}
-use Rattle.fab_gather.specs.Looks.{Opened, Stop, all_records, records_in}
+use Rattle.window_records.specs.Looks.{Opened, Stop, all_records, records_in}
 use Rattle.fab_policy.specs.Standing.{Contents}
 use Rattle.fab_states.specs.Runs.{HoldsFrom}
-use Rattle.fab_gather.specs.Looks.{all_kept}
+use Rattle.window_records.specs.Looks.{all_kept}
 use Rattle.fab_policy.specs.declared.line.Format.{Format}
 use Rattle.pcap_file.specs.declared.Budget.{Budget}
 use Rattle.pcap_file.specs.declared.Record.{Record}
-use Rattle.fab_gather.specs.declared.shelf.Input.{Input}
-use Rattle.fab_gather.specs.declared.shelf.Shelf.{Shelf}
+use Rattle.window_records.specs.declared.shelf.Input.{Input}
+use Rattle.window_records.specs.declared.shelf.Shelf.{Shelf}
 use Rattle.pcap_file.specs.declared.fault.GatherFault.{GatherFault}
 use Rattle.pcap_file.specs.declared.fault.GatherFault.TheVariants as gather_fault
-use Rattle.fab_gather.specs.First.{IsNextWindow, opened_in}
-use Rattle.fab_gather.specs.Gather.{Gathers}
+use Rattle.window_records.specs.First.{IsNextWindow, opened_in}
+use Rattle.window_records.specs.Gather.{Gathers}
 use Rattle.pcap_file.specs.Faults.{IsStopped, gather_end}
 use Rattle.fab_base.specs.Slots.{NameIn, slot_at}
-use Rattle.fab_gather.specs.Ports.{AreInputs, Walk, slots_of, walk_at}
-use Rattle.fab_gather.specs.Reads.{IsWhole, batches_of}
-use Rattle.fab_gather.specs.Walked.{Walked}
-use Rattle.fab_gather.proofs.SlotLemmas.{inputs_stay, name_in, same_length}
-use Rattle.fab_gather.proofs.StayLemmas.{LeftStays, left_stays}
-use Rattle.fab_gather.proofs.UsesLemmas.{uses_rose, uses_touches}
-use Rattle.fab_gather.proofs.WalkedLemmas.{next_later, next_soon, ports_on, tells_on, walked_ahead, walked_next, walked_on, walked_splits, walked_stays}
+use Rattle.window_records.specs.Ports.{AreInputs, Walk, slots_of, walk_at}
+use Rattle.window_records.specs.Reads.{IsWhole, batches_of}
+use Rattle.window_records.specs.Walked.{Walked}
+use Rattle.window_records.proofs.SlotLemmas.{inputs_stay, name_in, same_length}
+use Rattle.window_records.proofs.StayLemmas.{LeftStays, left_stays}
+use Rattle.window_records.proofs.UsesLemmas.{uses_rose, uses_touches}
+use Rattle.window_records.proofs.WalkedLemmas.{next_later, next_soon, ports_on, tells_on, walked_ahead, walked_next, walked_on, walked_splits, walked_stays}
 use Rattle.fab_replay.specs.AllOutputs.{IsFirst, OneRose, page_at}
 use Rattle.fab_replay.specs.Check.{Task, captures_in, matter_of, slots_in}
 use Rattle.fab_replay.specs.CheckFrom.{ChecksFrom, IsFirstStopFrom, NamesRunFrom, SaysFrom, sent_from}

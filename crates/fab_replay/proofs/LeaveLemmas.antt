@@ -4,10 +4,10 @@ use Rattle.std.specs.Prelude.{filter, nat_lt}
 use Rattle.fab_config.specs.Settings.{Settings}
 use Rattle.fab_policy.specs.Journal.{Journal, followed}
 use Rattle.fab_policy.specs.Legal.{numbered_from, window_start}
-use Rattle.fab_gather.specs.Looks.{Stop}
+use Rattle.window_records.specs.Looks.{Stop}
 use Rattle.fab_policy.specs.Standing.{Contents}
 use Rattle.fab_policy.specs.declared.event.Event.{Event}
-use Rattle.fab_gather.specs.Looks.{all_kept}
+use Rattle.window_records.specs.Looks.{all_kept}
 use Rattle.pcap_file.specs.declared.Budget.{Budget}
 use Rattle.pcap_file.specs.declared.Record.{Record}
 use Rattle.pcap_file.specs.Faults.{IsStopped}

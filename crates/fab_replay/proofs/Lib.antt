@@ -15,6 +15,7 @@ pub mod NothingLemmas
 pub mod OneLemmas
 pub mod OutputLemmas
 pub mod OwedLemmas
+pub mod PieceLemmas
 pub mod ReadLemmas
 pub mod RemainLemmas
 pub mod ResultLemmas

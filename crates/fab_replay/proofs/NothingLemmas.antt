@@ -20,9 +20,9 @@ use Rattle.fab_policy.specs.declared.event.Event.{Event}
 use Rattle.fab_policy.specs.declared.line.Format.{Format}
 use Rattle.fab_policy.specs.declared.line.Format.TheVariants.{One, Two}
 use Rattle.fab_policy.specs.declared.line.Line.{Line}
-use Rattle.fab_gather.specs.First.{opened_in}
-use Rattle.fab_gather.specs.Looks.{Stop, all_kept, all_records}
-use Rattle.fab_gather.specs.declared.shelf.Input.{Input}
+use Rattle.window_records.specs.First.{opened_in}
+use Rattle.window_records.specs.Looks.{Stop, all_kept, all_records}
+use Rattle.window_records.specs.declared.shelf.Input.{Input}
 use Rattle.fab_states.specs.Runs.{HoldsFrom, first_of, none_of}
 use Rattle.fab_states.specs.States.{sent_on, state_on}
 use Rattle.fab_states.specs.Written.{piece_records, piece_text}

@@ -13,7 +13,7 @@ use Rattle.fab_policy.proofs.WordLemmas.{AreWords, and_left, and_right, text_of}
 use Rattle.fab_policy.specs.Private.LineWords.{IsWord, is_inside, rest_of, verdict_words}
 use Rattle.fab_policy.specs.Journal.{Journal, clock, followed, now}
 use Rattle.fab_policy.specs.Legal.{HasPorts, HoldsFrames, IsLeastOf, IsNextTick, IsTickTime, Legal, Run, is_owed_after, left_of, numbered_from, of_port, record_of, window_start, windows_left}
-use Rattle.fab_gather.specs.Looks.{Stop}
+use Rattle.window_records.specs.Looks.{Stop}
 use Rattle.fab_policy.specs.Ranged.{IsRanged}
 use Rattle.fab_policy.specs.Spelling.{IsRangedLine, Spells, line_of, line_text}
 use Rattle.fab_policy.specs.State.{addresses, overdue, tables_of}

@@ -11,9 +11,9 @@ use Rattle.fab_base.specs.declared.values.Failed.{Failed}
 use Rattle.fab_base.proofs.EndingLemmas.{spares_reads}
 use Rattle.fab_base.proofs.SeenLemmas.{touches_trans, touches_wider}
 use Rattle.fab_config.specs.Settings.{Settings}
-use Rattle.fab_gather.proofs.SlotLemmas.{push_before, push_last}
+use Rattle.window_records.proofs.SlotLemmas.{push_before, push_last}
 use Rattle.fab_base.specs.Slots.{NameIn, slot_at}
-use Rattle.fab_gather.specs.Ports.{AreInputs}
+use Rattle.window_records.specs.Ports.{AreInputs}
 use Rattle.fab_pages.proofs.PageLemmas.{length-items, page_of}
 use Rattle.fab_pages.specs.Pages.{items_in, piece_at}
 use Rattle.fab_policy.specs.Journal.{Journal}
@@ -28,7 +28,7 @@ use Rattle.fab_replay.specs.declared.fault.CheckFault.{CheckFault}
 use Rattle.fab_replay.specs.declared.fault.CheckFault.TheVariants as fault
 use Rattle.fab_replay.specs.declared.outputs.Compared.{Compared}
 use Rattle.fab_replay.specs.declared.owed.Owed.{Owed}
-use Rattle.fab_gather.proofs.SlotLemmas.{name_in}
+use Rattle.window_records.proofs.SlotLemmas.{name_in}
 use Rattle.fab_replay.proofs.SlotsLemmas.{rose_in_all}
 
 -- ---- before anything is read

@@ -6,14 +6,14 @@ use Rattle.fab_base.specs.Seen.{Seen}
 use Rattle.fab_config.specs.Settings.{Settings}
 use Rattle.fab_policy.specs.Growing.{AreFrom, with_more}
 use Rattle.fab_policy.specs.Journal.{Journal}
-use Rattle.fab_gather.specs.Keeping.{IsAhead, Splits}
+use Rattle.window_records.specs.Keeping.{IsAhead, Splits}
 use Rattle.fab_policy.specs.Legal.{of_port}
-use Rattle.fab_gather.specs.Looks.{Opened, Stop, all_records, records_in}
-use Rattle.fab_gather.specs.Laws.{AllIn, HasSome}
-use Rattle.fab_gather.specs.Port.{AreIn}
-use Rattle.fab_gather.specs.Reads.{HasRead, HaveRead, batches_of, first_index}
-use Rattle.fab_gather.specs.declared.shelf.Input.{Input}
-use Rattle.fab_gather.specs.declared.shelf.Shelf.{Shelf}
+use Rattle.window_records.specs.Looks.{Opened, Stop, all_records, records_in}
+use Rattle.window_records.specs.Laws.{AllIn, HasSome}
+use Rattle.window_records.specs.Port.{AreIn}
+use Rattle.window_records.specs.Reads.{HasRead, HaveRead, batches_of, first_index}
+use Rattle.window_records.specs.declared.shelf.Input.{Input}
+use Rattle.window_records.specs.declared.shelf.Shelf.{Shelf}
 use Rattle.pcap_file.specs.declared.Record.{Record}
 use Rattle.fab_replay.specs.FrontFrom.{Origin}
 use Rattle.fab_replay.specs.Steps.{AreCounted, IsGathered}

@@ -14,7 +14,7 @@ use Rattle.fab_policy.specs.declared.line.Format.{Format}
 use Rattle.fab_policy.specs.declared.line.Line.{Line}
 use Rattle.fab_policy.specs.declared.line.Line.TheVariants.{Tick, Frame}
 use Rattle.fab_policy.specs.declared.verdict.Verdict.{Verdict}
-use Rattle.fab_gather.specs.declared.shelf.Shelf.{Shelf}
+use Rattle.window_records.specs.declared.shelf.Shelf.{Shelf}
 use Rattle.pcap_file.specs.declared.Record.{Record}
 use Rattle.fab_states.specs.States.{LegalFrom}
 use Rattle.fab_states.specs.Written.{clock_on}

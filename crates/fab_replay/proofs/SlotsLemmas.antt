@@ -3,8 +3,8 @@ use Rattle.std.proofs.Common.{◌≡◌, ℕ, zero, suc, ◌+◌, ◌<◌, List,
 use Rattle.fab_base.specs.Seen.{Seen, Touches, Nothing}
 use Rattle.fab_base.proofs.SeenLemmas.{rose_later}
 use Rattle.fab_base.specs.Slots.{NameIn, name_of, slot_at}
-use Rattle.fab_gather.specs.Ports.{AreInputs}
-use Rattle.fab_gather.proofs.SlotLemmas.{named_as}
+use Rattle.window_records.specs.Ports.{AreInputs}
+use Rattle.window_records.proofs.SlotLemmas.{named_as}
 use Rattle.fab_replay.specs.AllOutputs.{OneRose}
 
 at_front : (xs ys : List ℕ) (q : ℕ) → q < length xs → slot_at (xs ++ ys) q ≡ slot_at xs q

@@ -3,7 +3,7 @@ use Rattle.std.proofs.Common.{◌≡◌, ℕ, ◌+◌, ◌<◌, ◌≤◌, inl, 
 use Rattle.fab_base.specs.declared.values.Caught.{Caught}
 use Rattle.fab_config.specs.Settings.{Settings}
 use Rattle.fab_policy.specs.Journal.{Journal}
-use Rattle.fab_gather.specs.Keeping.{IsAhead}
+use Rattle.window_records.specs.Keeping.{IsAhead}
 use Rattle.fab_policy.specs.Legal.{IsLeastOf, IsNextTickBy, windows_left}
 use Rattle.fab_policy.specs.Outputs.{State}
 use Rattle.fab_policy.specs.Spelling.{HasClockOf, Spells, line_of}
@@ -17,7 +17,7 @@ use Rattle.fab_policy.specs.declared.line.Format.TheVariants.{One, Two}
 use Rattle.fab_policy.specs.declared.line.Line.{Line}
 use Rattle.fab_policy.specs.declared.line.Line.TheVariants.{Tick, Frame}
 use Rattle.fab_policy.specs.declared.verdict.Verdict.{Verdict}
-use Rattle.fab_gather.specs.declared.shelf.Shelf.{Shelf}
+use Rattle.window_records.specs.declared.shelf.Shelf.{Shelf}
 use Rattle.pcap_file.specs.declared.Record.{Record}
 use Rattle.fab_replay.specs.Front.{IsGatheredTo, has_left, is_at}
 use Rattle.fab_replay.specs.FrontFrom.{IsFirstWrongFrom, IsNextFrameFrom, IsWrongFrom, StandsFrom, clock_from, now_from, text_from}

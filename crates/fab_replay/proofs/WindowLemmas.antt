@@ -11,14 +11,14 @@ use Rattle.fab_policy.specs.Journal.{Journal}
 use Rattle.fab_policy.specs.Legal.{IsLeastOf, left_of, of_port, window_start, windows_left}
 use Rattle.fab_policy.specs.declared.event.Event.TheVariants.{Frame}
 use Rattle.fab_policy.specs.declared.verdict.Verdict.{Verdict}
-use Rattle.fab_gather.proofs.SlotLemmas.{get_set_same, get_set_other}
-use Rattle.fab_gather.specs.Port.{AreIn}
-use Rattle.fab_gather.specs.declared.shelf.Shelf.{Shelf}
+use Rattle.window_records.proofs.SlotLemmas.{get_set_same, get_set_other}
+use Rattle.window_records.specs.Port.{AreIn}
+use Rattle.window_records.specs.declared.shelf.Shelf.{Shelf}
 use Rattle.pcap_file.specs.declared.Record.{Record}
 use Rattle.fab_states.specs.Runs.{first_of}
 use Rattle.fab_replay.specs.Front.{is_at}
 use Rattle.fab_replay.specs.FrontFrom.{IsNextFrameFrom, clock_from, expects_tick_from}
-use Rattle.fab_gather.specs.Reads.{first_index}
+use Rattle.window_records.specs.Reads.{first_index}
 use Rattle.fab_replay.specs.Steps.{AllDone, AreCounted, AreFirsts, At, HasLeft, HoldSame, IsDone, HasLeftAt, IsGathered, IsOnShelf, IsPortIn, IsWindow, Scene}
 use Rattle.fab_replay.proofs.FrontLemmas.{of_port_own, of_port_other}
 use Rattle.fab_replay.proofs.LeftLemmas.{left_all, left_some, start_of, tick_unexpected}

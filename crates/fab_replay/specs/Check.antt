@@ -7,19 +7,19 @@ use Rattle.fab_config.specs.Settings.{Settings}
 use Rattle.pcap_file.specs.declared.Budget.{Budget}
 use Rattle.fab_policy.specs.Journal.{Journal}
 use Rattle.fab_policy.specs.Legal.{HoldsFrames, Run}
-use Rattle.fab_gather.specs.Looks.{Opened, Stop, stop, all_records}
+use Rattle.window_records.specs.Looks.{Opened, Stop, stop, all_records}
 use Rattle.fab_policy.specs.Standing.{Contents, Stands}
 use Rattle.fab_policy.specs.Text.{egress}
 use Rattle.fab_policy.specs.Written.{IsNamed}
-use Rattle.fab_gather.specs.Looks.{all_kept}
+use Rattle.window_records.specs.Looks.{all_kept}
 use Rattle.pcap_file.specs.declared.fault.GatherFault.{GatherFault}
 use Rattle.pcap_file.specs.declared.fault.GatherFault.TheVariants as gather_fault
-use Rattle.fab_gather.specs.declared.shelf.Input.{Input}
-use Rattle.fab_gather.specs.First.{Start, opened_in, start_at}
-use Rattle.fab_gather.specs.Port.{ending}
+use Rattle.window_records.specs.declared.shelf.Input.{Input}
+use Rattle.window_records.specs.First.{Start, opened_in, start_at}
+use Rattle.window_records.specs.Port.{ending}
 use Rattle.fab_base.specs.Slots.{slot_at, NameIn}
-use Rattle.fab_gather.specs.Ports.{slots_of}
-use Rattle.fab_gather.specs.Reads.{IsWhole}
+use Rattle.window_records.specs.Ports.{slots_of}
+use Rattle.window_records.specs.Reads.{IsWhole}
 use Rattle.fab_replay.specs.AllOutputs.{IsFirst, OneRose}
 use Rattle.fab_replay.specs.Counts.{check_end}
 use Rattle.fab_replay.specs.Front.{AreRightLines, IsFirstWrong}

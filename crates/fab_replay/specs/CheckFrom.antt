@@ -12,9 +12,9 @@ use Rattle.pcap_file.specs.declared.fault.GatherFault.TheVariants as gather_faul
 use Rattle.fab_policy.specs.Journal.{Journal}
 use Rattle.fab_policy.specs.Ranged.{IsRanged}
 use Rattle.fab_policy.specs.Standing.{Contents}
-use Rattle.fab_gather.specs.Looks.{Stop, stop, all_kept, all_records}
-use Rattle.fab_gather.specs.Port.{ending}
-use Rattle.fab_gather.specs.Reads.{IsWhole}
+use Rattle.window_records.specs.Looks.{Stop, stop, all_kept, all_records}
+use Rattle.window_records.specs.Port.{ending}
+use Rattle.window_records.specs.Reads.{IsWhole}
 use Rattle.fab_states.specs.Runs.{HoldsFrom, RunFrom}
 use Rattle.fab_replay.specs.AllOutputs.{IsFirst, OneRose}
 use Rattle.fab_replay.specs.Check.{Matter, Task, matter_of, slots_in}

@@ -4,9 +4,9 @@ use Rattle.std.specs.List.{list_any}
 use Rattle.fab_config.specs.Settings.{Settings}
 use Rattle.pcap_file.specs.declared.Record.{Record}
 use Rattle.fab_policy.specs.Journal.{Journal, clock}
-use Rattle.fab_gather.specs.Keeping.{IsAhead}
+use Rattle.window_records.specs.Keeping.{IsAhead}
 use Rattle.fab_policy.specs.Legal.{HasPorts, IsLeastOf, IsNextTick, Legal, Timed, left_of, numbered_from, of_port, window_start, windows_left}
-use Rattle.fab_gather.specs.Looks.{Stop}
+use Rattle.window_records.specs.Looks.{Stop}
 use Rattle.fab_policy.specs.Ranged.{IsRanged}
 use Rattle.fab_policy.specs.Spelling.{Spells}
 use Rattle.fab_policy.specs.State.{addresses, overdue, tables_of}

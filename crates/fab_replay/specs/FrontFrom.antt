@@ -18,7 +18,7 @@ use Rattle.fab_policy.specs.declared.line.Format.{Format}
 use Rattle.fab_policy.specs.declared.line.Format.TheVariants.{One, Two}
 use Rattle.fab_policy.specs.declared.line.Line.{Line}
 use Rattle.fab_policy.specs.declared.line.Line.TheVariants.{Tick, Frame}
-use Rattle.fab_gather.specs.Looks.{Stop}
+use Rattle.window_records.specs.Looks.{Stop}
 use Rattle.fab_states.specs.Runs.{TimedFrom, first_of, none_of}
 use Rattle.fab_states.specs.States.{LegalFrom, sent_on, state_on}
 use Rattle.fab_states.specs.Written.{piece_records, piece_text}

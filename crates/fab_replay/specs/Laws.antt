@@ -1,6 +1,6 @@
 -- The laws of the layers below on which a check rests. No public clause cites this module.
-use Rattle.fab_gather.specs.Keeping.{KeepsJust}
-use Rattle.fab_gather.specs.Laws.{LooksAhead, NoneIsLeft, ReadIsAll, ReadIsBelow, WindowMoves}
+use Rattle.window_records.specs.Keeping.{KeepsJust}
+use Rattle.window_records.specs.Laws.{LooksAhead, NoneIsLeft, ReadIsAll, ReadIsBelow, WindowMoves}
 
 pub record Laws : Type 0 where
   -- what a stop keeps

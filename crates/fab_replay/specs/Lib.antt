@@ -9,6 +9,7 @@ pub mod Laws
 pub mod Lines
 pub mod Outputs
 pub mod Owed
+pub mod Piece
 pub mod Remains
 pub mod Rows
 pub mod Showing

@@ -6,9 +6,9 @@ use Rattle.fab_config.specs.Settings.{Settings}
 use Rattle.pcap_file.specs.declared.Record.{Record}
 use Rattle.fab_policy.specs.Growing.{AreFrom}
 use Rattle.fab_policy.specs.Journal.{Journal}
-use Rattle.fab_gather.specs.Keeping.{IsAhead}
+use Rattle.window_records.specs.Keeping.{IsAhead}
 use Rattle.fab_policy.specs.Legal.{IsLeastOf, IsNextTickBy, left_of, of_port, windows_left}
-use Rattle.fab_gather.specs.Looks.{Stop}
+use Rattle.window_records.specs.Looks.{Stop}
 use Rattle.fab_policy.specs.Ranged.{IsRanged}
 use Rattle.fab_policy.specs.Standing.{Contents}
 use Rattle.fab_policy.specs.State.{Tables}
@@ -17,9 +17,9 @@ use Rattle.fab_policy.specs.declared.event.Event.TheVariants.{Frame}
 use Rattle.fab_policy.specs.declared.line.Line.{Line}
 use Rattle.fab_policy.specs.declared.line.Line.TheVariants.{Tick}
 use Rattle.fab_policy.specs.declared.verdict.Verdict.{Verdict}
-use Rattle.fab_gather.specs.Port.{AreIn}
-use Rattle.fab_gather.specs.Reads.{first_index}
-use Rattle.fab_gather.specs.declared.shelf.Shelf.{Shelf}
+use Rattle.window_records.specs.Port.{AreIn}
+use Rattle.window_records.specs.Reads.{first_index}
+use Rattle.window_records.specs.declared.shelf.Shelf.{Shelf}
 use Rattle.fab_pages.specs.Pages.{items_in}
 use Rattle.fab_states.specs.Runs.{first_of}
 use Rattle.fab_states.specs.States.{LegalFrom, state_on}

@@ -6,15 +6,15 @@ use Rattle.pcap_file.specs.declared.Record.{Record}
 use Rattle.fab_config.specs.Settings.{Settings}
 use Rattle.fab_policy.specs.Journal.{Journal}
 use Rattle.fab_policy.specs.Legal.{of_port}
-use Rattle.fab_gather.specs.Looks.{stop, all_records}
+use Rattle.window_records.specs.Looks.{stop, all_records}
 use Rattle.fab_policy.specs.Standing.{Contents}
 use Rattle.pcap_file.specs.declared.fault.GatherFault.{GatherFault}
 use Rattle.pcap_file.specs.declared.fault.GatherFault.TheVariants as gather_fault
-use Rattle.fab_gather.specs.First.{IsNextWindow}
+use Rattle.window_records.specs.First.{IsNextWindow}
 use Rattle.fab_base.specs.Slots.{NameIn}
-use Rattle.fab_gather.specs.Ports.{AreInputs, TakesFrom, Walk}
-use Rattle.fab_gather.specs.Walked.{Walked}
-use Rattle.fab_gather.specs.declared.shelf.Shelf.{Shelf}
+use Rattle.window_records.specs.Ports.{AreInputs, TakesFrom, Walk}
+use Rattle.window_records.specs.Walked.{Walked}
+use Rattle.window_records.specs.declared.shelf.Shelf.{Shelf}
 use Rattle.fab_replay.specs.Check.{Task, captures_in, matter_of, slots_in}
 use Rattle.fab_replay.specs.CheckFrom.{ChecksFrom, LeavesFrom}
 use Rattle.fab_replay.specs.Counts.{check_end}

@@ -1,7 +1,7 @@
 //! The outputs of all ports, each against the bytes that it should have.
 ghost use Rattle.std.specs.Prelude.{◌≡◌, ◌≤◌, length};
 ghost use Rattle.fab_replay.specs.AllOutputs.{FeedsEach, FinishesEach};
-ghost use Rattle.fab_gather.specs.Ports.{AreInputs};
+ghost use Rattle.window_records.specs.Ports.{AreInputs};
 
 use crate::Compared;
 use fab_base::{Depot, Failed, PortNo};

@@ -1,9 +1,11 @@
 //! A journal checked against captures whose heads were read, and against outputs.
-ghost use Rattle.std.specs.Prelude.{◌≡◌, ◌++◌, ◌+◌, ◌<◌, ◌≤◌, Bool, IfErr, IsTrue, MatchBool, MatchResult, Err, None, length, [], false};
+ghost use Rattle.std.specs.Prelude.{◌≡◌, ◌++◌, ◌+◌, ◌<◌, ◌≤◌, Bool, IfErr, IfOk, IsTrue, MatchBool, MatchResult, Err, None, length, map, [], false};
 ghost use Rattle.fab_base.specs.Ending.{SparesReads, end_by};
-ghost use Rattle.fab_base.specs.Seen.{SameWriteFaults};
-ghost use Rattle.fab_gather.specs.First.{AreFresh};
-ghost use Rattle.fab_gather.specs.Ports.{AreInputs, TakesFrom, slots_of, walk_at};
+ghost use Rattle.fab_base.specs.Seen.{Nothing, SameWriteFaults, Touches};
+ghost use Rattle.fab_base.specs.Slots.{NameIn};
+ghost use Rattle.window_records.specs.First.{AreFresh, opened_in};
+ghost use Rattle.window_records.specs.Ports.{AreInputs, TakesFrom, slots_of, walk_at};
+ghost use Rattle.window_records.specs.Reads.{HaveRead};
 ghost use Rattle.fab_policy.specs.Journal.{Journal};
 ghost use Rattle.fab_policy.specs.Outputs.{state_of};
 ghost use Rattle.fab_replay.specs.Check.{Checks, Leaves, matter_in, Task, task_from, task_of};
@@ -22,17 +24,17 @@ use crate::owed::Owed;
 use crate::windows::{Course, Written, check_windows, fault_of};
 use crate::{CheckFault, LineWhy, Place};
 use fab_base::Depot;
-use fab_gather::{Input, Shelf, first_looks, next_window};
 use fab_policy::{Line, Verdict};
 use forward_core::Fabric;
 use pcap_file::Budget;
 use std::alloc::Global;
+use window_records::{Input, Shelf, first_looks, next_window};
 
 /// Where a check stands before its first window.
 #[derive(Debug, Drop)]
-struct Begun {
-    shelves: Vec<Shelf>,
-    course: Course,
+pub(crate) struct Begun {
+    pub(crate) shelves: Vec<Shelf>,
+    pub(crate) course: Course,
 }
 
 /// Checks a journal, in either format, against captures in port order and against outputs of the
@@ -80,7 +82,7 @@ pub fn check_captures<D: Depot>(
 }
 
 // Looks at the first record of each port; nothing of the journal and of the outputs is read yet.
-fn look_first<D: Depot>(
+pub(crate) fn look_first<D: Depot>(
     alloc: Global,
     depot: &mut D,
     fabric: &Fabric,
@@ -101,6 +103,12 @@ fn look_first<D: Depot>(
         (stand_at fabric.now b.course
         (walk_at (D.seen depot.new) ins.new b.shelves.items budget.new)))
         (λ e. Ends k (D.seen depot.new) fabric.now (Err e)) }
+    ensures shelves { IfOk result (λ b. length b.shelves.items ≡ length ins.old) }
+    ensures touches { IfOk result (λ _. Touches Nothing
+        (NameIn (D.seen depot.old) (slots_of ins.old)) (D.seen depot.old) (D.seen depot.new)) }
+    ensures read { IfOk result (λ b. HaveRead fabric.now.settings 0
+        (opened_in (D.seen depot.old) ins.old) (map (λ _. []) ins.old) ins.new b.shelves.items
+        (D.seen depot.new)) }
     ensures takes { TakesFrom ins.old ins.new budget.old budget.new }
     ensures counts { SparesReads (end_by spec.check_end result) (D.seen depot.old)
         (D.seen depot.new) × SameWriteFaults (D.seen depot.old) (D.seen depot.new) }
@@ -117,7 +125,7 @@ fn look_first<D: Depot>(
 }
 
 // Checks the lines of all windows, that no line is behind them, and then the outputs.
-fn check_begun<D: Depot>(
+pub(crate) fn check_begun<D: Depot>(
     alloc: Global,
     depot: &mut D,
     fabric: &mut Fabric,

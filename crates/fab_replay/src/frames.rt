@@ -18,12 +18,12 @@ use crate::sent::take_sent;
 use crate::verdicts::{Misjudged, step_as};
 use crate::{CheckFault, LineWhy, Place};
 use fab_base::{Moment, NoMemory, PortNo};
-use fab_gather::Shelf;
 use fab_policy::{Line, Verdict};
 use forward_core::Fabric;
 use heard_frames::hear;
 use pcap_file::Record;
 use std::alloc::Global;
+use window_records::Shelf;
 
 /// A window's records, on the shelves of their ports, and how many frames each port had before the
 /// check.

@@ -4,7 +4,7 @@
 ghost use Rattle.fab_replay.specs.Exact.{AnswerIsOne, OutputDiffers, RunIsAccepted, RunIsOne};
 ghost use Rattle.fab_replay.specs.Laws.{Laws};
 
-use fab_gather::{looks_to_come, records_are_read, stops_keep_what_is_before, windows_move_on};
+use window_records::{looks_to_come, records_are_read, stops_keep_what_is_before, windows_move_on};
 
 /// The looks that are left, what was read, and what a stop keeps.
 pub(crate) fn laws_of_windows()

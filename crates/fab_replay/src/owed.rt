@@ -1,6 +1,6 @@
 //! The outputs while a journal is checked.
 ghost use Rattle.std.specs.Prelude.{◌≡◌, ◌≤◌, ℕ, IfOk, [], List, length, slice_get, Some};
-ghost use Rattle.fab_gather.specs.Ports.{AreInputs};
+ghost use Rattle.window_records.specs.Ports.{AreInputs};
 ghost use Rattle.fab_replay.specs.Outputs.{IsRead};
 ghost use Rattle.fab_replay.specs.Owed.{AreMany, AreNew, ReadsOn, ReadsOut};
 ghost use Rattle.fab_replay.specs.Owed as spec;

@@ -1,7 +1,7 @@
 //! The lines of ticks.
 ghost use Rattle.std.specs.Prelude.{IfErr, Bool, IsTrue, ◌≡◌, ◌+◌, ◌<◌, ◌≤◌, ◌%◌, ◌^◌, ◌∷◌, [], ℕ, List, IfSome, MatchResult, MatchBool, OnOk, Some, length, true};
 ghost use Rattle.fab_policy.specs.Journal.{Journal};
-ghost use Rattle.fab_gather.specs.Keeping.{IsAhead};
+ghost use Rattle.window_records.specs.Keeping.{IsAhead};
 ghost use Rattle.fab_policy.specs.Legal.{IsLeastOf, windows_left};
 ghost use Rattle.fab_policy.specs.declared.event.Event.TheVariants as event;
 ghost use Rattle.fab_policy.specs.declared.line.Line.TheVariants as line_;

@@ -3,7 +3,7 @@ ghost use Rattle.std.specs.Prelude.{◌≡◌, ℕ, Bool, IsErrOf, IsTrue, Match
 ghost use Rattle.fab_base.specs.Ending.{SparesReads, end_by};
 ghost use Rattle.fab_base.specs.Seen.{Nothing, SameWriteFaults, Seen, Touches};
 ghost use Rattle.fab_base.specs.Slots.{NameIn};
-ghost use Rattle.fab_gather.specs.Ports.{AreInputs, walk_at};
+ghost use Rattle.window_records.specs.Ports.{AreInputs, walk_at};
 ghost use Rattle.fab_policy.specs.Journal.{Journal};
 ghost use Rattle.fab_replay.specs.AllOutputs.{OneRose};
 ghost use Rattle.fab_replay.specs.Counts.{check_end};
@@ -19,19 +19,19 @@ use crate::owed::Owed;
 use crate::ticks::check_ticks;
 use crate::{CheckFault, LineWhy, Place};
 use fab_base::Depot;
-use fab_gather::{Input, Shelf, gather, next_window};
 use fab_policy::Verdict;
 use forward_core::Fabric;
 use pcap_file::{Budget, GatherFault};
 use std::alloc::Global;
+use window_records::{Input, Shelf, gather, next_window};
 
 /// What is checked: a journal's text, how many frames each port had before it, 0 where the list is
 /// shorter, and the slots of the outputs of the first ports.
 #[derive(Clone, Copy, Debug)]
-pub(crate) struct Written<'a> {
-    pub(crate) journal: &'a [u8],
-    pub(crate) firsts: &'a [u64],
-    pub(crate) outs: &'a [u32],
+pub struct Written<'a> {
+    pub journal: &'a [u8],
+    pub firsts: &'a [u64],
+    pub outs: &'a [u32],
 }
 
 /// How far a check came: the start of its first window, the place in the journal's text, and the

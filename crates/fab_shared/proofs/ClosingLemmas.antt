@@ -1,8 +1,8 @@
 -- A closed fabric has handled the frames on the shelves.
 use Rattle.std.proofs.Common.{◌≡◌, ◌⊎◌, inl, inr, ⊎_elim, ℕ, ◌+◌, ◌≤◌, Bool, true, false, List, [], length, slice_get, Some, refl, sym, ap, ◌∙◌, subst, arith}
 use Rattle.std.proofs.lemmas.Option.{slice_get_within}
-use Rattle.fab_gather.specs.Reads.{batches_of}
-use Rattle.fab_gather.specs.declared.shelf.Shelf.{Shelf}
+use Rattle.window_records.specs.Reads.{batches_of}
+use Rattle.window_records.specs.declared.shelf.Shelf.{Shelf}
 use Rattle.fab_policy.specs.Journal.{followed}
 use Rattle.fab_policy.specs.Legal.{HasPorts, of_port, numbered_from}
 use Rattle.fab_policy.specs.Standing.{Contents}
@@ -15,7 +15,7 @@ use Rattle.fab_turn.specs.Lock.{given, kept, AllJoined}
 use Rattle.fab_turn.specs.Views as turn
 use Rattle.fab_turn.specs.Views.{has_port, has_kept, kept_list}
 use Rattle.fab_turn.proofs.PortLists.{is_false, kept_none}
-use Rattle.fab_gather.specs.Reads.{first_index}
+use Rattle.window_records.specs.Reads.{first_index}
 use Rattle.fab_shared.specs.Handled.{Handled, firsts_of}
 use Rattle.fab_shared.specs.Workers.{AreGiven, AreTaken, IsTaken, frames_in}
 use Rattle.fab_shared.proofs.EntryLemmas.{frames_of_port, ports_within}

@@ -4,8 +4,8 @@ use Rattle.std.proofs.lemmas.Bool.{eq-eqb, ne_eqb, cases_order}
 use Rattle.std.proofs.lemmas.List.{append-nil, length-take-le, take_all, take_more}
 use Rattle.std.proofs.lemmas.Option.{slice_get_within}
 use Rattle.fab_base.specs.declared.values.Caught.{Caught}
-use Rattle.fab_gather.specs.Reads.{batches_of}
-use Rattle.fab_gather.specs.declared.shelf.Shelf.{Shelf}
+use Rattle.window_records.specs.Reads.{batches_of}
+use Rattle.window_records.specs.declared.shelf.Shelf.{Shelf}
 use Rattle.fab_policy.specs.Growing.{FollowedByParts}
 use Rattle.fab_policy.specs.Journal.{followed}
 use Rattle.fab_policy.specs.Legal.{IsRightEntry, HasPorts, of_port, numbered_from}
@@ -17,7 +17,7 @@ use Rattle.fab_policy.specs.declared.event.Event.{Event}
 use Rattle.fab_policy.specs.declared.event.Event.TheVariants.{Frame}
 use Rattle.fab_policy.specs.declared.verdict.Verdict.{Verdict}
 use Rattle.pcap_file.specs.declared.Record.{Record}
-use Rattle.fab_gather.specs.Reads.{first_index}
+use Rattle.window_records.specs.Reads.{first_index}
 use Rattle.fab_shared.specs.Handled.{HandledPort, HoldBatches, Handled, firsts_of}
 use Rattle.fab_policy.proofs.FollowedLemmas.{of_port-followed, ports-followed, frames-append}
 use Rattle.fab_policy.proofs.GrowLemmas.{numbered-append}

@@ -2,7 +2,7 @@
 use Rattle.std.proofs.Common.{◌≡◌, ⊎_elim, ℕ, ◌<◌, Bool, true, false, ◌||◌, All, List, [], ◌∷◌, ◌++◌, refl, sym, ap, ◌∙◌, subst, arith}
 use mathlib.Core.Logic.{dite}
 use native.Mathlib.Decide.{ℕ_discrete}
-use Rattle.fab_gather.specs.declared.shelf.Shelf.{Shelf}
+use Rattle.window_records.specs.declared.shelf.Shelf.{Shelf}
 use Rattle.fab_policy.specs.declared.event.Event.{Event}
 use Rattle.fab_shared.specs.declared.locked.LockedFabric.{LockedFabric}
 use Rattle.fab_shared.specs.declared.shared.SharedFabric.{SharedFabric}

@@ -13,8 +13,8 @@ use Rattle.std.proofs.Common.{[], ◌∷◌}
 use Rattle.std.proofs.Crossing.{sync}
 use Rattle.std.specs.contracts.alloc.Global as Global
 use Rattle.fab_base.proofs.values.PortNo.TheSendSync as port
-use Rattle.fab_gather.specs.contracts.shelf.Shelf as Shelf
-use Rattle.fab_gather.proofs.shelf.Shelf.TheSendSync as shelf
+use Rattle.window_records.specs.contracts.shelf.Shelf as Shelf
+use Rattle.window_records.proofs.shelf.Shelf.TheSendSync as shelf
 use Rattle.fab_shared.specs.contracts.shared.SharedFabric as Shared
 use Rattle.fab_shared.proofs.Crossing.{pass_send, shared_sync}
 use Rattle.fab_shared.specs.contracts.worker.Worker as Worker

@@ -6,8 +6,8 @@ use Rattle.fab_policy.specs.Standing.{Contents}
 use Rattle.fab_states.specs.Went.{Grown}
 use Rattle.fab_policy.specs.declared.event.Event.{Event}
 use Rattle.pcap_file.specs.declared.Record.{Record}
-use Rattle.fab_gather.specs.declared.shelf.Shelf.{Shelf}
-use Rattle.fab_gather.specs.Reads.{batches_of, first_index}
+use Rattle.window_records.specs.declared.shelf.Shelf.{Shelf}
+use Rattle.window_records.specs.Reads.{batches_of, first_index}
 
 -- What a fabric has to be to handle what lies on shelves: it has a clock and a port a shelf, which are 64 at most.
 pub record CanTake (F : Contents) (shelves : List Shelf) : Type 0 where

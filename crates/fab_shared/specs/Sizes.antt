@@ -2,7 +2,7 @@
 use Rattle.std.specs.Prelude.{ℕ, Bool, ◌&&◌, ◌||◌, nat_le, nat_lt, List, length, sum_by}
 use Rattle.std.specs.List.{filter}
 use Rattle.pcap_file.specs.declared.Record.{Record}
-use Rattle.fab_gather.specs.declared.shelf.Shelf.{Shelf}
+use Rattle.window_records.specs.declared.shelf.Shelf.{Shelf}
 
 abbrev pub bytes_in : List Record → ℕ
 bytes_in records = sum_by (λ (r : Record). length r.caught.bytes) records

@@ -1,7 +1,7 @@
 -- The workers of a window, and what each of them did.
 use Rattle.std.specs.Prelude.{◌≡◌, ◌⊎◌, ℕ, ◌+◌, ◌<◌, ◌≤◌, true, false, List, [], ◌∷◌, length, slice_get, slice_index_or, All, Some}
 use Rattle.fab_base.specs.declared.values.Caught.{Caught}
-use Rattle.fab_gather.specs.declared.shelf.Shelf.{Shelf}
+use Rattle.window_records.specs.declared.shelf.Shelf.{Shelf}
 use Rattle.fab_policy.specs.Legal.{numbered_from}
 use Rattle.fab_policy.specs.declared.event.Event.{Event}
 use Rattle.fab_policy.specs.declared.event.Event.TheVariants.{Tick, Frame}
@@ -10,7 +10,7 @@ use Rattle.fab_turn.specs.Lock.{own, given, kept, IsPassOf, IsRootOf, IsIdle}
 use Rattle.fab_turn.specs.Views.{has_port, has_kept, kept_list}
 use Rattle.fab_shared.specs.declared.locked.LockedFabric.{LockedFabric}
 use Rattle.fab_shared.specs.declared.shared.SharedFabric.{SharedFabric}
-use Rattle.fab_gather.specs.Reads.{first_index}
+use Rattle.window_records.specs.Reads.{first_index}
 use Rattle.fab_shared.specs.declared.worker.Worker.{Worker}
 
 -- the frames of entries, with their indices

@@ -1,6 +1,6 @@
 //! The workers of a window, each in a thread of its own.
 ghost use Rattle.std.specs.Prelude.{◌≡◌, ◌<◌, ◌≤◌, ◌+◌, ℕ, List, [], Some, All, IsSome, IfOk, false, length, vec_capacity, slice_get, slice_index_or};
-ghost use Rattle.fab_gather.specs.declared.shelf.Shelf as of_gather;
+ghost use Rattle.window_records.specs.declared.shelf.Shelf as of_gather;
 ghost use Rattle.fab_turn.specs.Lock.{own, given, kept, IsRootOf, IsIdle, AllJoined};
 ghost use Rattle.fab_shared.specs.Shared.{opened};
 ghost use Rattle.fab_shared.specs.Handled.{CanTake, HandledShelves};
@@ -10,12 +10,12 @@ ghost use Rattle.fab_shared.specs.declared.worker.Worker as of_workers;
 use crate::worker::{Worker, work};
 use crate::{Pass, SharedFabric};
 use fab_base::{Gate, NoMemory, PortNo};
-use fab_gather::Shelf;
 use forward_core::Fabric;
 use std::alloc::Global;
 use std::sync::Wait;
 use std::thread;
 use std::thread::Threads;
+use window_records::Shelf;
 
 /// Has a worker for each port with a frame handle the frames of that port, and takes their passes
 /// back. All memory for the workers is asked for before a port is given out.

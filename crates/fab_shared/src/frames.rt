@@ -1,15 +1,15 @@
 //! The frames of a window, one port after another.
 ghost use Rattle.std.specs.Prelude.{◌≤◌, ◌∷◌, [], IsSome, OnOk};
-ghost use Rattle.fab_gather.specs.Reads.{first_index};
+ghost use Rattle.window_records.specs.Reads.{first_index};
 ghost use Rattle.fab_shared.specs.Handled.{CanTake, HandledPort, HandledShelves};
 
 use fab_base::{Gate, NoMemory, PortNo};
-use fab_gather::Shelf;
 use fab_policy::{Verdict, entries_come_in_parts};
 use forward_core::{Fabric, StepFault, granted_address};
 use heard_frames::hear;
 use pcap_file::Record;
 use std::alloc::Global;
+use window_records::Shelf;
 
 /// Handles the records on the shelves, those of one port after those of another, under a gate.
 pub(crate) fn in_turn<G: Gate>(

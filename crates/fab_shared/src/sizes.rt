@@ -2,8 +2,8 @@
 ghost use Rattle.std.specs.Prelude.{◌≡◌, ◌-◌};
 ghost use Rattle.fab_shared.specs.Sizes.{bytes_in, bytes_on};
 
-use fab_gather::Shelf;
 use pcap_file::Record;
+use window_records::Shelf;
 
 /// How many bytes the frames of a window lack to so many.
 pub(crate) fn lacking(shelves: &[Shelf], bytes: u64) -> u64

@@ -8,14 +8,14 @@ use crate::crew::by_workers;
 use crate::frames::in_turn;
 use crate::sizes::lacking;
 use fab_base::{Gate, NoMemory};
-use fab_gather::Shelf;
 use forward_core::Fabric;
 use std::alloc::Global;
 use std::sync::Wait;
 use std::thread::Threads;
+use window_records::Shelf;
 
 /// From so many bytes of frames on a window goes by workers under any gate. In none that is smaller
-/// were they found to save anything over one port after another (bench/workers).
+/// were they found to save anything over one port after another.
 const WORTH_WORKERS: u64 = 64 << 20;
 
 /// Handles the records on the shelves under a gate, those of each port in their order. Where

@@ -1,18 +1,18 @@
 //! A worker of one port.
 ghost use Rattle.std.specs.Prelude.{◌≡◌, [], IsSome, OnOk, Some};
 ghost use Rattle.fab_policy.specs.Legal.{numbered_from};
-ghost use Rattle.fab_gather.specs.Reads.{first_index};
+ghost use Rattle.window_records.specs.Reads.{first_index};
 ghost use Rattle.fab_turn.specs.Lock.{own, IsPassOf, IsIdle};
 ghost use Rattle.fab_shared.specs.Shared.{opened};
 ghost use Rattle.fab_shared.specs.Workers.{frames_in, IsReady, IsNew, IsDone};
 
 use crate::{Pass, SharedFabric};
 use fab_base::{Gate, NoMemory, PortNo};
-use fab_gather::Shelf;
 use forward_core::granted_address;
 use heard_frames::hear;
 use std::alloc::Global;
 use std::sync::Wait;
+use window_records::Shelf;
 
 /// A port with its pass, and whether memory was refused.
 #[derive(Drop)]

@@ -175,7 +175,7 @@ module _ (c : Settings) (n : ℕ) (s : Seam) (h : IsFit c n s) where
         | inr found ↦ gone (port_at a s.state.tables.ports) none (subst (λ (k : ℕ). IsSome (port_at k s.state.tables.ports)) key found)
       ]
 
-  fit_sound : IsSoundState c s.state
+  pub fit_sound : IsSoundState c s.state
   fit_sound = record {
     tables = record {
       ascending = (

@@ -9,28 +9,28 @@ use Rattle.fab_base.proofs.EndingLemmas.{none_then, none_yet}
 use Rattle.fab_base.proofs.SeenLemmas.{rose_later, touches_refl, touches_trans, touches_wider}
 use Rattle.fab_config.specs.Settings.{Settings}
 use Rattle.fab_policy.specs.Growing.{AllBelow}
-use Rattle.fab_gather.specs.Looks.{stop}
+use Rattle.window_records.specs.Looks.{stop}
 use Rattle.fab_policy.specs.Standing.{Contents}
 use Rattle.fab_policy.specs.State.{now_of}
 use Rattle.fab_states.proofs.WrittenLemmas.{piece-none, sent-none}
 use Rattle.std.proofs.lemmas.List.{append-nil}
 use Rattle.pcap_file.specs.declared.Budget.{Budget}
 use Rattle.pcap_file.specs.declared.Record.{Record}
-use Rattle.fab_gather.specs.declared.shelf.Input.{Input}
-use Rattle.fab_gather.specs.declared.shelf.Shelf.{Shelf}
+use Rattle.window_records.specs.declared.shelf.Input.{Input}
+use Rattle.window_records.specs.declared.shelf.Shelf.{Shelf}
 use Rattle.pcap_file.specs.declared.fault.GatherFault.{GatherFault}
 use Rattle.pcap_file.specs.Faults.{gather_end}
 use Rattle.run_files.specs.Faults.{fault_from}
 use Rattle.run_files.specs.declared.fault.RunFault.{RunFault}
 use Rattle.run_files.specs.declared.fault.RunFault.TheVariants as fault
-use Rattle.fab_gather.specs.First.{IsNextWindow, LooksFirst, opened_in, start_at}
+use Rattle.window_records.specs.First.{IsNextWindow, LooksFirst, opened_in, start_at}
 use Rattle.fab_base.specs.Slots.{NameIn}
-use Rattle.fab_gather.specs.Ports.{slots_of, AreInputs, walk_at}
-use Rattle.fab_gather.specs.Walked.{Walked}
-use Rattle.fab_gather.proofs.SlotLemmas.{inputs_stay, name_in}
-use Rattle.fab_gather.proofs.UsesLemmas.{uses_rose, uses_touches}
-use Rattle.fab_gather.proofs.StayLemmas.{LeftStays, opened_stay}
-use Rattle.fab_gather.proofs.WalkedLemmas.{next_later, next_soon, walked_before, walked_first, walked_next}
+use Rattle.window_records.specs.Ports.{slots_of, AreInputs, walk_at}
+use Rattle.window_records.specs.Walked.{Walked}
+use Rattle.window_records.proofs.SlotLemmas.{inputs_stay, name_in}
+use Rattle.window_records.proofs.UsesLemmas.{uses_rose, uses_touches}
+use Rattle.window_records.proofs.StayLemmas.{LeftStays, opened_stay}
+use Rattle.window_records.proofs.WalkedLemmas.{next_later, next_soon, walked_before, walked_first, walked_next}
 use Rattle.fab_windows.specs.declared.Done.{Done}
 use Rattle.fab_windows.specs.Files.{AreFiles, Written, Pending, Hold, Writes, file_slots}
 use Rattle.fab_windows.specs.From.{FrontsOn, IsRunOn, RunsOn, StoppedOn, WholesOn, captures_on, journal_on}

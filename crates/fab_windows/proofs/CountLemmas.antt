@@ -9,15 +9,15 @@ use Rattle.fab_base.specs.declared.values.Caught.{Caught}
 use Rattle.fab_config.specs.Settings.{Settings}
 use Rattle.fab_policy.specs.Journal.{Journal, followed, frame_count}
 use Rattle.fab_policy.specs.Legal.{HasPorts, HoldsFrames, of_port, numbered_from}
-use Rattle.fab_gather.specs.Looks.{Opened}
+use Rattle.window_records.specs.Looks.{Opened}
 use Rattle.fab_policy.specs.declared.event.Event.{Event}
 use Rattle.fab_policy.specs.declared.event.Event.TheVariants.{Tick, Frame}
 use Rattle.fab_policy.specs.declared.verdict.Verdict.{Verdict}
 use Rattle.pcap_file.specs.declared.Record.{Record}
-use Rattle.fab_gather.specs.declared.shelf.Input.{Input}
-use Rattle.fab_gather.specs.declared.shelf.Shelf.{Shelf}
-use Rattle.fab_gather.specs.Ports.{counts_of}
-use Rattle.fab_gather.specs.Reads.{HaveRead}
+use Rattle.window_records.specs.declared.shelf.Input.{Input}
+use Rattle.window_records.specs.declared.shelf.Shelf.{Shelf}
+use Rattle.window_records.specs.Ports.{counts_of}
+use Rattle.window_records.specs.Reads.{HaveRead}
 
 -- ---- frames
 

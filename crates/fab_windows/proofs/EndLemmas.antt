@@ -7,14 +7,14 @@ use Rattle.fab_base.specs.Seen.{Seen}
 use Rattle.fab_config.specs.Settings.{Settings}
 use Rattle.fab_policy.specs.Journal.{Journal, frame_count}
 use Rattle.fab_policy.specs.Growing.{NothingIsRun}
-use Rattle.fab_gather.specs.Keeping.{Splits, IsAhead, KeepsBefore, KeepsJust}
+use Rattle.window_records.specs.Keeping.{Splits, IsAhead, KeepsBefore, KeepsJust}
 use Rattle.fab_policy.specs.Legal.{window_start}
-use Rattle.fab_gather.specs.Looks.{Opened, Stop, stop, kept, all_records}
+use Rattle.window_records.specs.Looks.{Opened, Stop, stop, kept, all_records}
 use Rattle.pcap_file.specs.declared.Budget.{Budget}
 use Rattle.pcap_file.specs.declared.Record.{Record}
-use Rattle.fab_gather.specs.Port.{ending}
+use Rattle.window_records.specs.Port.{ending}
 use Rattle.run_files.specs.Faults.{fault_from}
-use Rattle.fab_gather.specs.Reads.{IsWhole}
+use Rattle.window_records.specs.Reads.{IsWhole}
 use Rattle.fab_windows.specs.declared.Done.{Done}
 use Rattle.fab_states.specs.Runs.{HoldsFrom, none_of}
 use Rattle.fab_windows.specs.From.{FinishedOn, FrontsOn, InterruptedOn, IsRunOn, Origin, StoppedOn, WholesOn, captures_on, journal_on}

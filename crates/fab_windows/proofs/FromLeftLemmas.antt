@@ -1,7 +1,7 @@
 -- The records of a window behind those that were taken before, and the windows that are left of them, with indexes from some on.
 use Rattle.std.proofs.Common.{◌≡◌, ℕ, ◌+◌, List, [], ◌∷◌, ◌++◌, length, drop, map, refl, sym, ap, ◌∙◌, subst, arith}
 use Rattle.fab_config.specs.Settings.{Settings}
-use Rattle.fab_gather.specs.Laws.{AllIn, HasSome}
+use Rattle.window_records.specs.Laws.{AllIn, HasSome}
 use Rattle.fab_policy.specs.Growing.{with_more}
 use Rattle.fab_policy.specs.Journal.{Journal, followed}
 use Rattle.fab_policy.specs.Legal.{IsLeastOf, numbered_from, of_port, window_start, windows_left}

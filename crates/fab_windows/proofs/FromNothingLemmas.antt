@@ -12,8 +12,8 @@ use Rattle.fab_policy.proofs.GrowLemmas.{nothing_is_written}
 use Rattle.fab_states.specs.Written.{piece_records, piece_text}
 use Rattle.fab_states.proofs.NothingLemmas.{run_nothing}
 use Rattle.fab_states.proofs.WrittenLemmas.{records-behind, text-behind}
-use Rattle.fab_gather.specs.First.{Start, opened_in}
-use Rattle.fab_gather.specs.Looks.{Opened}
+use Rattle.window_records.specs.First.{Start, opened_in}
+use Rattle.window_records.specs.Looks.{Opened}
 use Rattle.run_files.specs.declared.fault.RunFault.{RunFault}
 use Rattle.run_files.specs.declared.fault.RunFault.TheVariants as fault
 use Rattle.fab_windows.specs.declared.Done.{Done}

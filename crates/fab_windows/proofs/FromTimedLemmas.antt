@@ -3,7 +3,7 @@ use Rattle.std.proofs.Common.{◌≡◌, ℕ, zero, suc, ◌+◌, ◌-◌, ◌�
 use Rattle.std.specs.Prelude.{if◌then◌else◌, unwrap_or}
 use Rattle.std.proofs.lemmas.Bool.{eq-eqb}
 use Rattle.fab_config.specs.Settings.{Settings}
-use Rattle.fab_gather.specs.Laws.{AllIn}
+use Rattle.window_records.specs.Laws.{AllIn}
 use Rattle.fab_policy.specs.Growing.{with_more}
 use Rattle.fab_policy.specs.Journal.{Journal, followed}
 use Rattle.fab_policy.specs.Legal.{HasPorts, IsLeastOf, of_port, window_start, windows_left}

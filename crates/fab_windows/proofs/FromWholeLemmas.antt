@@ -2,7 +2,7 @@
 use Rattle.std.proofs.Common.{◌≡◌, ℕ, ◌+◌, ◌≤◌, List, [], ◌∷◌, ◌++◌, length, unwrap_or, slice_get, sym, ap, ◌∙◌, subst, arith}
 use Rattle.fab_config.specs.Settings.{Settings}
 use Rattle.pcap_file.specs.declared.Record.{Record}
-use Rattle.fab_gather.specs.Laws.{AllIn, HasSome}
+use Rattle.window_records.specs.Laws.{AllIn, HasSome}
 use Rattle.fab_policy.specs.Growing.{with_more, AllBelow}
 use Rattle.fab_policy.specs.Journal.{Journal, followed}
 use Rattle.fab_policy.specs.Legal.{HasPorts, of_port}

@@ -21,15 +21,15 @@ use Rattle.fab_sending.specs.declared.message.Out.{Out}
 use Rattle.forward_core.specs.Fabric.{AreRanged}
 use Rattle.pcap_file.specs.declared.Budget.{Budget}
 use Rattle.pcap_file.specs.declared.Record.{Record}
-use Rattle.fab_gather.specs.declared.shelf.Input.{Input}
-use Rattle.fab_gather.specs.declared.shelf.Shelf.{Shelf}
+use Rattle.window_records.specs.declared.shelf.Input.{Input}
+use Rattle.window_records.specs.declared.shelf.Shelf.{Shelf}
 use Rattle.run_files.specs.declared.fault.RunFault.{RunFault}
 use Rattle.run_files.specs.declared.fault.RunFault.TheVariants as fault
 use Rattle.pcap_file.specs.declared.fault.GatherFault.{GatherFault}
-use Rattle.fab_gather.specs.First.{IsNextWindow}
+use Rattle.window_records.specs.First.{IsNextWindow}
 use Rattle.fab_base.specs.Slots.{NameIn}
-use Rattle.fab_gather.specs.Ports.{slots_of, walk_at}
-use Rattle.fab_gather.specs.Reads.{batches_of}
+use Rattle.window_records.specs.Ports.{slots_of, walk_at}
+use Rattle.window_records.specs.Reads.{batches_of}
 use Rattle.fab_windows.specs.declared.Done.{Done}
 use Rattle.fab_windows.specs.Files.{AreFiles, Pending, GoesOn, Writes, file_slots}
 use Rattle.fab_windows.specs.From.{WholesButOn, captures_on, journal_on}
@@ -39,15 +39,15 @@ use Rattle.run_files.specs.Faults.{fault_from}
 use Rattle.fab_base.proofs.EndingLemmas.{none_then}
 use Rattle.fab_windows.specs.Steps.{NotAfter, Sofar}
 use Rattle.fab_windows.specs.Turns.{Laws, Task, captures_in, start_of, Reached, Going, Gathered, Ended, Handles, Publishes, paged_at}
-use Rattle.fab_gather.specs.Gather.{Gathers}
+use Rattle.window_records.specs.Gather.{Gathers}
 use Rattle.fab_windows.specs.Window.{Ticked, Handled, firsts_of}
 use Rattle.fab_windows.proofs.CountLemmas.{frames_found, length-followed, frames-followed}
 use Rattle.fab_windows.proofs.SofarLemmas.{counts-none, early, none-more, outs_are}
 use Rattle.fab_pages.proofs.PageLemmas.{front_of}
-use Rattle.fab_gather.specs.Walked.{Walked}
-use Rattle.fab_gather.proofs.SlotLemmas.{same_length}
-use Rattle.fab_gather.proofs.UsesLemmas.{uses_touches}
-use Rattle.fab_gather.proofs.WalkedLemmas.{walked_on}
+use Rattle.window_records.specs.Walked.{Walked}
+use Rattle.window_records.proofs.SlotLemmas.{same_length}
+use Rattle.window_records.proofs.UsesLemmas.{uses_touches}
+use Rattle.window_records.proofs.WalkedLemmas.{walked_on}
 use Rattle.fab_windows.proofs.FileLemmas.{files_stay}
 use Rattle.fab_windows.proofs.TurnLemmas.{read_touches, reached_on, ended_writing, ended_gathering, ended_closing, ended_unwritten, but_on, files_now}
 

@@ -4,8 +4,8 @@ use Rattle.std.specs.List.{list_any, list_all}
 use Rattle.std.proofs.lemmas.Bool.{eq-eqb, le-leb}
 use Rattle.std.proofs.lemmas.List.Folds.{list_any-append, list_all-append}
 use Rattle.fab_config.specs.Settings.{Settings}
-use Rattle.fab_gather.specs.Laws.{AllIn, HasSome}
-use Rattle.fab_gather.specs.Port.{AreIn}
+use Rattle.window_records.specs.Laws.{AllIn, HasSome}
+use Rattle.window_records.specs.Port.{AreIn}
 use Rattle.fab_policy.specs.Growing.{with_more, AreBelow, AllBelow, AreFrom, AllFrom}
 use Rattle.fab_policy.specs.Journal.{Journal, followed}
 use Rattle.fab_policy.specs.Legal.{HoldsFrames, IsLeastOf, numbered_from, of_port, window_start, windows_left}

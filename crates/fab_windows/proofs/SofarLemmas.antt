@@ -3,7 +3,7 @@ use Rattle.std.proofs.Common.{◌≡◌, ℕ, ◌+◌, ◌%◌, ◌^◌, ◌<◌
 use Rattle.std.specs.Prelude.{unwrap_or, false}
 use Rattle.fab_config.specs.Settings.{Settings}
 use Rattle.pcap_file.specs.declared.Record.{Record}
-use Rattle.fab_gather.specs.Laws.{AllIn, HasSome}
+use Rattle.window_records.specs.Laws.{AllIn, HasSome}
 use Rattle.fab_policy.specs.Growing.{FollowedByParts, RangedByParts, with_more}
 use Rattle.fab_policy.specs.Journal.{Journal, followed, frame_count}
 use Rattle.fab_policy.specs.Legal.{HasPorts, IsTickTimeAt, is_tick_owed}

@@ -4,10 +4,10 @@ use Rattle.fab_base.specs.Ending.{End, Uses}
 use Rattle.fab_base.specs.Seen.{Seen, Touches, Nothing}
 use Rattle.fab_config.specs.Settings.{Settings}
 use Rattle.fab_policy.specs.Journal.{Journal}
-use Rattle.fab_gather.specs.declared.shelf.Input.{Input}
+use Rattle.window_records.specs.declared.shelf.Input.{Input}
 use Rattle.fab_base.specs.Slots.{slot_at, name_of, NameIn}
-use Rattle.fab_gather.specs.Ports.{slots_of, AreInputs}
-use Rattle.fab_gather.proofs.StayLemmas.{LeftStays, left_stays}
+use Rattle.window_records.specs.Ports.{slots_of, AreInputs}
+use Rattle.window_records.proofs.StayLemmas.{LeftStays, left_stays}
 use Rattle.fab_windows.specs.Files.{AreFiles, Written, Pending, Hold}
 use Rattle.fab_windows.specs.From.{Origin, WholesButOn, captures_on, journal_on}
 use Rattle.run_files.proofs.OutputLemmas.{same_name, stays_named}

@@ -3,10 +3,10 @@ use Rattle.std.proofs.Common.{◌≡◌, ℕ, suc, ◌+◌, ◌<◌, List, [], �
 use Rattle.std.specs.Prelude.{option_to_list}
 use Rattle.fab_config.specs.Settings.{Settings}
 use Rattle.fab_base.specs.Seen.{Seen}
-use Rattle.fab_gather.specs.Reads.{HasRead, first_index}
-use Rattle.fab_gather.specs.declared.shelf.Input.{Input}
-use Rattle.fab_gather.specs.declared.shelf.Shelf.{Shelf}
-use Rattle.fab_gather.specs.Looks.{Opened}
+use Rattle.window_records.specs.Reads.{HasRead, first_index}
+use Rattle.window_records.specs.declared.shelf.Input.{Input}
+use Rattle.window_records.specs.declared.shelf.Shelf.{Shelf}
+use Rattle.window_records.specs.Looks.{Opened}
 use Rattle.fab_policy.specs.Ranged.{IsRanged, IsRangedEvent}
 use Rattle.fab_policy.specs.declared.event.Event.{Event}
 use Rattle.pcap_file.specs.declared.Record.{Record}

@@ -4,8 +4,8 @@ use Rattle.std.specs.Prelude.{if◌then◌else◌, option_and_then}
 use Rattle.std.proofs.lemmas.Bool.{eq-eqb}
 use Rattle.fab_base.specs.declared.values.Caught.{Caught}
 use Rattle.fab_config.specs.Settings.{Settings}
-use Rattle.fab_gather.specs.Laws.{AllIn}
-use Rattle.fab_gather.specs.Port.{AreIn}
+use Rattle.window_records.specs.Laws.{AllIn}
+use Rattle.window_records.specs.Port.{AreIn}
 use Rattle.fab_policy.specs.Growing.{with_more}
 use Rattle.fab_policy.specs.Journal.{Journal, clock, followed}
 use Rattle.fab_policy.specs.Legal.{Timed, HasPorts, IsLeastOf, left_of, numbered_from, of_port, record_of, window_start, windows_left}

@@ -5,33 +5,33 @@ use Rattle.fab_base.specs.Seen.{Seen, Touches, Nothing, Rose}
 use Rattle.fab_base.specs.declared.values.Failed.{Failed}
 use Rattle.fab_base.proofs.SeenLemmas.{rose_later, touches_trans, touches_wider}
 use Rattle.fab_policy.specs.Journal.{Journal}
-use Rattle.fab_gather.specs.Keeping.{Splits}
-use Rattle.fab_gather.specs.Looks.{Stop}
+use Rattle.window_records.specs.Keeping.{Splits}
+use Rattle.window_records.specs.Looks.{Stop}
 use Rattle.fab_policy.specs.Standing.{Contents}
 use Rattle.pcap_file.specs.declared.Budget.{Budget}
-use Rattle.fab_gather.specs.declared.shelf.Input.{Input}
-use Rattle.fab_gather.specs.declared.shelf.Shelf.{Shelf}
+use Rattle.window_records.specs.declared.shelf.Input.{Input}
+use Rattle.window_records.specs.declared.shelf.Shelf.{Shelf}
 use Rattle.run_files.specs.declared.fault.RunFault.{RunFault}
 use Rattle.run_files.specs.declared.fault.RunFault.TheVariants as fault
 use Rattle.pcap_file.specs.declared.fault.GatherFault.{GatherFault}
 use Rattle.pcap_file.specs.declared.fault.GatherFault.TheVariants as gather
-use Rattle.fab_gather.specs.Port.{ending}
+use Rattle.window_records.specs.Port.{ending}
 use Rattle.pcap_file.specs.Faults as gathering
 use Rattle.pcap_file.specs.Faults.{gather_end}
 use Rattle.run_files.specs.Faults.{fault_from, run_end, IsUnwritten}
 use Rattle.fab_base.proofs.EndingLemmas.{none_then}
 use Rattle.fab_base.specs.Slots.{NameIn}
-use Rattle.fab_gather.specs.Ports.{slots_of, AreInputs, stop_from, walk_at}
+use Rattle.window_records.specs.Ports.{slots_of, AreInputs, stop_from, walk_at}
 use Rattle.fab_windows.specs.declared.Done.{Done}
 use Rattle.fab_windows.specs.Files.{AreFiles, Written, Pending, Writes}
 use Rattle.fab_windows.specs.From.{EndsOn, FrontsOn, InterruptedOn, StoppedOn, WholesButOn, WholesOn}
 use Rattle.fab_windows.specs.Run.{SparesFaults}
 use Rattle.fab_windows.specs.Turns.{Laws, Task, captures_in, start_of, Touched, Reached, Ended}
-use Rattle.fab_gather.specs.Gather.{Gathers}
-use Rattle.fab_gather.proofs.SlotLemmas.{inputs_stay, name_in}
-use Rattle.fab_gather.proofs.UsesLemmas.{uses_rose, uses_touches}
-use Rattle.fab_gather.proofs.StayLemmas.{LeftStays}
-use Rattle.fab_gather.proofs.WalkedLemmas.{walked_ahead, walked_splits, walked_stays}
+use Rattle.window_records.specs.Gather.{Gathers}
+use Rattle.window_records.proofs.SlotLemmas.{inputs_stay, name_in}
+use Rattle.window_records.proofs.UsesLemmas.{uses_rose, uses_touches}
+use Rattle.window_records.proofs.StayLemmas.{LeftStays}
+use Rattle.window_records.proofs.WalkedLemmas.{walked_ahead, walked_splits, walked_stays}
 use Rattle.fab_windows.proofs.EndLemmas.{interrupted, stopped}
 use Rattle.fab_windows.proofs.FileLemmas.{files_stay}
 use Rattle.fab_windows.proofs.PublishLemmas.{wholes_but_front, flushed_whole, flushed_part}

@@ -17,11 +17,11 @@ use Rattle.fab_policy.specs.Text.{head_line}
 use Rattle.fab_policy.specs.Written as written
 use Rattle.fab_states.specs.Runs.{RunFrom, none_of}
 use Rattle.fab_states.specs.Written.{piece_records, piece_text}
-use Rattle.fab_gather.specs.First.{Start, opened_in}
-use Rattle.fab_gather.specs.Looks.{Opened, Stop, all_records, stop}
-use Rattle.fab_gather.specs.Port.{ending}
-use Rattle.fab_gather.specs.Ports.{slots_of}
-use Rattle.fab_gather.specs.Reads.{IsWhole}
+use Rattle.window_records.specs.First.{Start, opened_in}
+use Rattle.window_records.specs.Looks.{Opened, Stop, all_records, stop}
+use Rattle.window_records.specs.Port.{ending}
+use Rattle.window_records.specs.Ports.{slots_of}
+use Rattle.window_records.specs.Reads.{IsWhole}
 use Rattle.run_files.specs.Faults.{fault_from, run_end}
 use Rattle.run_files.specs.declared.fault.RunFault.{RunFault}
 use Rattle.run_files.specs.declared.fault.RunFault.TheVariants as fault

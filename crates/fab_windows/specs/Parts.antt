@@ -9,7 +9,7 @@ use Rattle.fab_policy.specs.Standing.{AreFrames}
 use Rattle.fab_policy.specs.declared.event.Event.{Event}
 use Rattle.fab_policy.specs.declared.event.Event.TheVariants.{Tick, Frame}
 use Rattle.pcap_file.specs.declared.Record.{Record}
-use Rattle.fab_gather.specs.Laws.{AllIn, HasSome}
+use Rattle.window_records.specs.Laws.{AllIn, HasSome}
 use Rattle.fab_windows.specs.Onward.{CanComeAll}
 use Rattle.fab_windows.specs.Files.{GoesOn}
 use Rattle.fab_windows.specs.Run.{IsRunOver}

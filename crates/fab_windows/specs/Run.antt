@@ -8,17 +8,17 @@ use Rattle.pcap_file.specs.declared.Budget.{Budget}
 use Rattle.pcap_file.specs.declared.Record.{Record}
 use Rattle.fab_policy.specs.Journal.{Journal, frame_count}
 use Rattle.fab_policy.specs.Legal.{Run}
-use Rattle.fab_gather.specs.Looks.{Opened, Stop, stop, kept, all_records}
+use Rattle.window_records.specs.Looks.{Opened, Stop, stop, kept, all_records}
 use Rattle.fab_policy.specs.Ranged.{IsRanged}
 use Rattle.fab_policy.specs.Written.{before}
-use Rattle.fab_gather.specs.declared.shelf.Input.{Input}
+use Rattle.window_records.specs.declared.shelf.Input.{Input}
 use Rattle.run_files.specs.declared.fault.RunFault.{RunFault}
 use Rattle.run_files.specs.declared.fault.RunFault.TheVariants as fault
-use Rattle.fab_gather.specs.First.{opened_in, AreFresh, Start}
-use Rattle.fab_gather.specs.Port.{ending}
+use Rattle.window_records.specs.First.{opened_in, AreFresh, Start}
+use Rattle.window_records.specs.Port.{ending}
 use Rattle.fab_base.specs.Slots.{name_of, NameIn}
-use Rattle.fab_gather.specs.Ports.{slots_of, AreInputs}
-use Rattle.fab_gather.specs.Reads.{IsWhole}
+use Rattle.window_records.specs.Ports.{slots_of, AreInputs}
+use Rattle.window_records.specs.Reads.{IsWhole}
 use Rattle.fab_windows.specs.declared.Done.{Done}
 use Rattle.run_files.specs.Faults.{fault_from, run_end}
 use Rattle.fab_windows.specs.Files.{Written, FileSlots, AreFiles, Wholes, Fronts}

@@ -14,11 +14,11 @@ use Rattle.fab_states.specs.Runs.{RunFrom, TimedFrom, counts_on, none_of}
 use Rattle.fab_states.specs.States.{LegalFrom, state_on}
 use Rattle.fab_states.specs.Went.{Grown}
 use Rattle.forward_core.specs.Fabric.{AreRanged}
-use Rattle.fab_gather.specs.Laws.{AllIn, HasSome}
-use Rattle.fab_gather.specs.Looks.{Opened}
-use Rattle.fab_gather.specs.Reads.{HaveRead, batches_of}
-use Rattle.fab_gather.specs.declared.shelf.Input.{Input}
-use Rattle.fab_gather.specs.declared.shelf.Shelf.{Shelf}
+use Rattle.window_records.specs.Laws.{AllIn, HasSome}
+use Rattle.window_records.specs.Looks.{Opened}
+use Rattle.window_records.specs.Reads.{HaveRead, batches_of}
+use Rattle.window_records.specs.declared.shelf.Input.{Input}
+use Rattle.window_records.specs.declared.shelf.Shelf.{Shelf}
 use Rattle.fab_windows.specs.Run.{IsRunOver}
 use Rattle.fab_windows.specs.Window.{AreTicksBy, Handled, HoldBatches, Ticked, firsts_of}
 

@@ -7,9 +7,9 @@ use Rattle.fab_config.specs.Settings.{Settings}
 use Rattle.pcap_file.specs.declared.Budget.{Budget}
 use Rattle.pcap_file.specs.declared.Record.{Record}
 use Rattle.fab_policy.specs.Growing.{records_to, FollowedByParts, NothingIsRun}
-use Rattle.fab_gather.specs.Keeping.{KeepsBefore, KeepsJust}
+use Rattle.window_records.specs.Keeping.{KeepsBefore, KeepsJust}
 use Rattle.fab_policy.specs.Journal.{Journal, frame_count}
-use Rattle.fab_gather.specs.Looks.{Opened}
+use Rattle.window_records.specs.Looks.{Opened}
 use Rattle.fab_policy.specs.Outputs.{Sent}
 use Rattle.fab_policy.specs.Standing.{Contents, drained}
 use Rattle.fab_policy.specs.declared.event.Event.{Event}
@@ -18,18 +18,18 @@ use Rattle.fab_states.specs.Runs.{none_of}
 use Rattle.fab_sending.specs.Message.{sent_of}
 use Rattle.fab_sending.specs.declared.message.Out.{Out}
 use Rattle.forward_core.specs.Fabric.{AreRanged}
-use Rattle.fab_gather.specs.declared.shelf.Input.{Input}
-use Rattle.fab_gather.specs.declared.shelf.Shelf.{Shelf}
+use Rattle.window_records.specs.declared.shelf.Input.{Input}
+use Rattle.window_records.specs.declared.shelf.Shelf.{Shelf}
 use Rattle.run_files.specs.Faults.{run_end, IsUnwritten}
 use Rattle.run_files.specs.declared.fault.RunFault.{RunFault}
 use Rattle.run_files.specs.declared.fault.RunFault.TheVariants as fault
-use Rattle.fab_gather.specs.First.{Start, start_at, opened_in, IsNextWindow}
-use Rattle.fab_gather.specs.Gather.{Gathers}
-use Rattle.fab_gather.specs.Laws.{LooksAhead, NextIsAhead, NextIsFirst, NoneIsLeft, WindowMoves, ReadsOn, ReadStays, ReadIsBelow, ReadSplits, ReadIsAll}
+use Rattle.window_records.specs.First.{Start, start_at, opened_in, IsNextWindow}
+use Rattle.window_records.specs.Gather.{Gathers}
+use Rattle.window_records.specs.Laws.{LooksAhead, NextIsAhead, NextIsFirst, NoneIsLeft, WindowMoves, ReadsOn, ReadStays, ReadIsBelow, ReadSplits, ReadIsAll}
 use Rattle.fab_base.specs.Slots.{NameIn}
-use Rattle.fab_gather.specs.Ports.{Walk, walk_at, slots_of}
-use Rattle.fab_gather.specs.Reads.{batches_of}
-use Rattle.fab_gather.specs.Walked.{Walked}
+use Rattle.window_records.specs.Ports.{Walk, walk_at, slots_of}
+use Rattle.window_records.specs.Reads.{batches_of}
+use Rattle.window_records.specs.Walked.{Walked}
 use Rattle.fab_windows.specs.declared.Done.{Done}
 use Rattle.fab_windows.specs.Files.{Written, Writes, FileSlots, file_slots, file_bytes, Pending, HoldBut, HoldFronts}
 use Rattle.fab_windows.specs.From.{Origin, RunsOn, WholesButOn, WholesOn}

@@ -4,9 +4,9 @@
 ghost use Rattle.fab_windows.specs.Turns.{Laws};
 
 use crate::steps::{firsts_are_taken, runs_go_on};
-use fab_gather::{looks_to_come, records_are_read, stops_keep_what_is_before, windows_move_on};
 use fab_policy::{entries_come_in_parts, records_come_later};
 use fab_states::later_entries_are_written;
+use window_records::{looks_to_come, records_are_read, stops_keep_what_is_before, windows_move_on};
 
 /// Further entries, further records, where reading stops, and what was read.
 pub fn laws_of_runs()

@@ -10,7 +10,6 @@ mod run;
 mod steps;
 mod window;
 
-pub use fab_gather::{CapWhy, Input, LimitKind};
 pub use files::{Slots, flush};
 pub use laws::laws_of_runs;
 pub use onward::journals_go_on;
@@ -19,6 +18,7 @@ pub use plan::tick_to;
 pub use run::run_windows;
 pub use run_files::RunFault;
 pub use steps::{parts_go_on, runs_go_on};
+pub use window_records::{CapWhy, Input, LimitKind};
 
 /// How many frames and entries a run made.
 #[derive(Clone, Copy, Debug, PartialEq, Eq)]

@@ -2,8 +2,8 @@
 ghost use Rattle.std.specs.Prelude.{◌≡◌, ◌+◌, ◌<◌, ◌≤◌, ◌^◌, length, [], IfOk, MatchResult};
 ghost use Rattle.fab_policy.specs.Outputs.{state_of};
 ghost use Rattle.fab_config.specs.Settings.{Settings};
-ghost use Rattle.fab_gather.specs.First.{start_at};
-ghost use Rattle.fab_gather.specs.Ports.{TakesFrom, walk_at};
+ghost use Rattle.window_records.specs.First.{start_at};
+ghost use Rattle.window_records.specs.Ports.{TakesFrom, walk_at};
 ghost use Rattle.fab_windows.specs.Files.{AreFiles, file_slots};
 ghost use Rattle.fab_windows.specs.From.{nothing_of};
 ghost use Rattle.fab_windows.specs.Pages.{IsNothing, pending};
@@ -16,12 +16,12 @@ use crate::pages::Pages;
 use crate::window::{Means, Run, run_window};
 use crate::{Done, RunFault};
 use fab_base::{Depot, Gate};
-use fab_gather::{Input, first_looks, next_window};
 use forward_core::Fabric;
 use pcap_file::Budget;
 use std::alloc::Global;
 use std::sync::Wait;
 use std::thread::Threads;
+use window_records::{Input, first_looks, next_window};
 
 /// Runs a new fabric over captures whose heads were read, window by window. The journal and the
 /// outputs, which are empty, are written in pieces of some 64 KiB, and wholly before the call

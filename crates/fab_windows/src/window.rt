@@ -4,15 +4,15 @@ ghost use Rattle.std.specs.List.{All};
 ghost use Rattle.fab_policy.specs.Growing.{lines_from};
 ghost use Rattle.fab_policy.specs.Journal.{frame_count};
 ghost use Rattle.fab_policy.specs.Ranged.{IsRangedEvent};
-ghost use Rattle.fab_gather.specs.First.{IsNextWindow, Start};
-ghost use Rattle.fab_gather.specs.Ports.{TakesFrom, walk_at};
+ghost use Rattle.window_records.specs.First.{IsNextWindow, Start};
+ghost use Rattle.window_records.specs.Ports.{TakesFrom, walk_at};
 ghost use Rattle.fab_pages.specs.Pages.{AreEarly, sents_of};
 ghost use Rattle.fab_windows.specs.Files.{AreFiles, file_slots};
 ghost use Rattle.fab_windows.specs.From.{Origin};
 ghost use Rattle.fab_windows.specs.Pages.{AreShort, pending};
 ghost use Rattle.fab_windows.specs.Turns.{task_of, Going, Gathered, Ended, Handles, Publishes, paged_at};
 ghost use Rattle.std.specs.Prelude.{List};
-ghost use Rattle.fab_gather.specs.declared.shelf.Input as of_gather;
+ghost use Rattle.window_records.specs.declared.shelf.Input as of_gather;
 ghost use Rattle.pcap_file.specs.declared.Budget as of_captures;
 
 use crate::files::{Slots, flush, flush_for};
@@ -21,7 +21,6 @@ use crate::pages::Pages;
 use crate::plan::tick_to;
 use crate::{Done, Input, RunFault};
 use fab_base::{Depot, Gate, Moment, NoMemory};
-use fab_gather::{Shelf, gather};
 use fab_pages::Sendings;
 use fab_policy::Event;
 use fab_shared::take_frames;
@@ -30,6 +29,7 @@ use pcap_file::Budget;
 use std::alloc::Global;
 use std::sync::Wait;
 use std::thread::Threads;
+use window_records::{Shelf, gather};
 
 /// What the work of a run is done by, and the gate that each frame passes.
 #[derive(Clone, Copy)]

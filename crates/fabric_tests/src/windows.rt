@@ -1,16 +1,16 @@
 //! Two captures in a depot whose fetches give a few bytes each, taken window by window.
 ghost use Rattle.std.specs.Prelude.{◌≡◌, [], ◌∷◌, ◌^◌, ◌+◌, ◌<◌, ◌≤◌, length};
-ghost use Rattle.fab_gather.specs.First.{IsFresh};
-ghost use Rattle.fab_gather.specs.Ports.{AreReady, slots_of};
+ghost use Rattle.window_records.specs.First.{IsFresh};
+ghost use Rattle.window_records.specs.Ports.{AreReady, slots_of};
 
 use crate::settings::settings;
 use case_lines::OpenFiles;
 use fab_base::{Bytes, Moment, NoMemory, PortNo};
 use fab_config::Config;
-use fab_gather::*;
 use pcap_file::{Budget, Reader, write_head, write_record};
 use std::alloc::Global;
 use std::test::Fail;
+use window_records::*;
 
 // A capture with one byte at each of these moments.
 fn capture(alloc: Global, moments: &[u32]) -> Result<Vec<u8>, NoMemory> {

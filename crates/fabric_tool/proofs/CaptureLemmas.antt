@@ -11,8 +11,8 @@ use Rattle.pcap_file.specs.declared.CaptureHead.{CaptureHead}
 use Rattle.pcap_file.specs.declared.Record.{Record}
 use Rattle.pcap_file.proofs.lemmas.Chains.{found_stands, go_on}
 use Rattle.pcap_file.proofs.lemmas.Numbers.{le_or_lt}
-use Rattle.fab_gather.specs.Looks.{Opened, records_in, all_records}
-use Rattle.fab_gather.specs.Reads.{IsWhole}
+use Rattle.window_records.specs.Looks.{Opened, records_in, all_records}
+use Rattle.window_records.specs.Reads.{IsWhole}
 use Rattle.fabric_tool.specs.Inputs.{HasCapture, AreCaptures, IsOpened, AreOpened}
 
 -- a head has its 24 bytes

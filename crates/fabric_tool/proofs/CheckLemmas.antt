@@ -9,10 +9,10 @@ use Rattle.pcap_file.specs.Capture.{HEAD}
 use Rattle.pcap_file.specs.declared.Budget.{Budget}
 use Rattle.fab_policy.specs.Journal.{Journal}
 use Rattle.fab_policy.specs.Standing.{Contents}
-use Rattle.fab_gather.specs.First.{opened_in}
+use Rattle.window_records.specs.First.{opened_in}
 use Rattle.fab_base.specs.Slots.{slot_at, NameIn}
-use Rattle.fab_gather.specs.Ports.{slots_of}
-use Rattle.fab_gather.specs.declared.shelf.Input.{Input}
+use Rattle.window_records.specs.Ports.{slots_of}
+use Rattle.window_records.specs.declared.shelf.Input.{Input}
 use Rattle.pcap_file.specs.declared.fault.GatherFault.{GatherFault}
 use Rattle.fab_replay.specs.Outputs.{IsCompared}
 use Rattle.fab_replay.specs.Check.{Matter, NamesRun, IsAccepted, IsFirstOutput, IsFirstStop, Says, Checks, matter_in, sent_on, task_of}

@@ -7,9 +7,9 @@ use Rattle.fab_config.specs.declared.ConfigFault.{ConfigFault}
 use Rattle.pcap_file.specs.Capture.{HEAD, head_decoded}
 use Rattle.pcap_file.specs.declared.CapFault.{CapFault}
 use Rattle.pcap_file.specs.declared.CaptureHead.{CaptureHead}
-use Rattle.fab_gather.specs.Looks.{Opened, Stop}
+use Rattle.window_records.specs.Looks.{Opened, Stop}
 use Rattle.pcap_file.specs.Faults.{why_of}
-use Rattle.fab_gather.specs.Port.{ending}
+use Rattle.window_records.specs.Port.{ending}
 use Rattle.pcap_file.specs.declared.fault.CapWhy.{CapWhy}
 use Rattle.run_files.specs.Faults.{fault_from}
 use Rattle.run_files.specs.declared.fault.RunFault.{RunFault}

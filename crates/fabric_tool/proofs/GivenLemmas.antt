@@ -3,10 +3,10 @@ use Rattle.std.proofs.Common.{◌≡◌, ℕ, zero, suc, ◌+◌, ◌*◌, ◌<�
 use Rattle.std.specs.Prelude.{String}
 use Rattle.std.specs.declared.alloc.Global.{Global}
 use Rattle.fab_base.specs.Seen.{Seen}
-use Rattle.fab_gather.specs.First.{AreFresh}
+use Rattle.window_records.specs.First.{AreFresh}
 use Rattle.fab_base.specs.Slots.{slot_at, name_of, NameIn}
-use Rattle.fab_gather.specs.Ports.{slots_of}
-use Rattle.fab_gather.specs.declared.shelf.Input.{Input}
+use Rattle.window_records.specs.Ports.{slots_of}
+use Rattle.window_records.specs.declared.shelf.Input.{Input}
 use Rattle.fab_windows.specs.Files.{Written}
 use Rattle.fab_windows.specs.Run.{AreGiven}
 use Rattle.fabric_tool.specs.Command.{are_pairs, run_of, port_count, input_at, output_at}

@@ -14,8 +14,8 @@ use Rattle.pcap_file.specs.declared.CapFault.{CapFault}
 use Rattle.pcap_file.specs.declared.CapOpen.{CapOpen}
 use Rattle.pcap_file.specs.declared.CapOpen.TheVariants as opens
 use Rattle.pcap_file.proofs.lemmas.Numbers.{le_or_lt}
-use Rattle.fab_gather.specs.First.{opened_in}
-use Rattle.fab_gather.specs.declared.shelf.Input.{Input}
+use Rattle.window_records.specs.First.{opened_in}
+use Rattle.window_records.specs.declared.shelf.Input.{Input}
 use Rattle.run_files.specs.Names.{Among}
 use Rattle.fabric_tool.specs.Inputs.{AreOpened}
 use Rattle.fabric_tool.specs.Outcome.{outcome_end}

@@ -10,7 +10,7 @@ use Rattle.fab_policy.specs.Growing.{NothingIsRun}
 use Rattle.fab_policy.specs.Journal.{Journal}
 use Rattle.fab_policy.specs.Legal.{Run, window_start}
 use Rattle.fab_base.specs.Counting.{counting}
-use Rattle.fab_gather.specs.Looks.{Opened, all_records, kept}
+use Rattle.window_records.specs.Looks.{Opened, all_records, kept}
 use Rattle.fab_policy.specs.Text.{text, egress}
 use Rattle.fab_policy.specs.Written.{before, egresses}
 use Rattle.fab_windows.specs.Run.{IsRunOver}

@@ -6,7 +6,7 @@ use Rattle.fab_base.specs.Seen.{Seen, OpensOut}
 use Rattle.fab_base.specs.declared.values.Failed.{Failed}
 use Rattle.pcap_file.specs.declared.Budget.{Budget}
 use Rattle.fab_base.specs.Counting.{counting}
-use Rattle.fab_gather.specs.declared.shelf.Input.{Input}
+use Rattle.window_records.specs.declared.shelf.Input.{Input}
 use Rattle.fabric_tool.specs.Command.{are_pairs, are_ports, run_of, ins_of, port_count, count_of, input_of, output_at}
 use Rattle.fabric_tool.specs.declared.command.Width.{Width}
 use Rattle.fabric_tool.specs.Opening.{OutputsOpened}

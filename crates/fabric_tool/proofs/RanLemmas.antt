@@ -10,16 +10,16 @@ use Rattle.pcap_file.specs.declared.Budget.{Budget}
 use Rattle.fab_policy.specs.Growing.{NothingIsRun}
 use Rattle.fab_policy.specs.Journal.{Journal}
 use Rattle.fab_base.specs.Counting.{counting}
-use Rattle.fab_gather.specs.Looks.{Opened, stop, kept, all_records}
+use Rattle.window_records.specs.Looks.{Opened, stop, kept, all_records}
 use Rattle.fab_policy.specs.Outputs.{state_of}
 use Rattle.fab_policy.specs.Standing.{Contents}
 use Rattle.fab_policy.specs.Text.{text, egress}
 use Rattle.fab_policy.specs.Written.{before}
 use Rattle.fab_policy.proofs.NamedLemmas.{text_names_journal}
-use Rattle.fab_gather.specs.First.{opened_in, start_at}
+use Rattle.window_records.specs.First.{opened_in, start_at}
 use Rattle.fab_base.specs.Slots.{name_of, NameIn}
-use Rattle.fab_gather.specs.Ports.{slots_of}
-use Rattle.fab_gather.specs.declared.shelf.Input.{Input}
+use Rattle.window_records.specs.Ports.{slots_of}
+use Rattle.window_records.specs.declared.shelf.Input.{Input}
 use Rattle.run_files.specs.declared.fault.RunFault.{RunFault}
 use Rattle.run_files.specs.declared.fault.RunFault.TheVariants as faults
 use Rattle.fab_windows.specs.Files.{Written, FileBytes, file_bytes, file_slots, Wholes, Fronts, HoldsFrom, InOrder, captures, text_so_far, captures_so_far}

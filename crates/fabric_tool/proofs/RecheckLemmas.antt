@@ -6,13 +6,13 @@ use Rattle.fab_base.specs.Sunk.{Sunk}
 use Rattle.fab_config.specs.Settings.{Settings}
 use Rattle.fab_policy.specs.Journal.{Journal}
 use Rattle.fab_base.specs.Counting.{counting}
-use Rattle.fab_gather.specs.Looks.{Opened, all_records, stop}
+use Rattle.window_records.specs.Looks.{Opened, all_records, stop}
 use Rattle.fab_policy.specs.Text.{egress, text}
 use Rattle.std.specs.List.{All}
 use Rattle.pcap_file.specs.Capture.{HEAD, IsCapture}
 use Rattle.pcap_file.specs.declared.Record.{Record}
 use Rattle.pcap_file.proofs.lemmas.Chains.{one_capture}
-use Rattle.fab_gather.specs.Reads.{IsWhole}
+use Rattle.window_records.specs.Reads.{IsWhole}
 use Rattle.fab_windows.specs.Run.{IsRunOver}
 use Rattle.fab_live.specs.Arriving.{arrived, records_of}
 use Rattle.fab_replay.specs.Check.{AreSent, NamesRun}

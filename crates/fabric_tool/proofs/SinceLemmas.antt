@@ -2,7 +2,7 @@
 use Rattle.std.proofs.Common.{◌≡◌, ℕ, ◌≤◌, List, [], ◌∷◌, sym, ◌∙◌}
 use Rattle.fab_base.specs.Seen.{Seen, SameFiles}
 use Rattle.fab_base.proofs.SeenLemmas.{rose_later}
-use Rattle.fab_gather.specs.Looks.{Opened}
+use Rattle.window_records.specs.Looks.{Opened}
 use Rattle.pcap_file.specs.declared.fault.CapWhy.{CapWhy}
 use Rattle.fabric_tool.specs.Inputs.{AreOpened, IsFirstWithout, HaveNoRoom, IsFirstUnread}
 

@@ -4,10 +4,10 @@ use Rattle.std.specs.Prelude.{String, map}
 use Rattle.std.specs.declared.alloc.Global.{Global}
 use Rattle.fab_base.specs.Seen.{Seen, Touches, Nothing}
 use Rattle.fab_base.specs.Counting.{counting}
-use Rattle.fab_gather.specs.First.{AreFresh}
+use Rattle.window_records.specs.First.{AreFresh}
 use Rattle.fab_base.specs.Slots.{slot_at, NameIn}
-use Rattle.fab_gather.specs.Ports.{slots_of, AreInputs}
-use Rattle.fab_gather.specs.declared.shelf.Input.{Input}
+use Rattle.window_records.specs.Ports.{slots_of, AreInputs}
+use Rattle.window_records.specs.declared.shelf.Input.{Input}
 use Rattle.fabric_tool.specs.Checking.{AreOpenInputs}
 use Rattle.fabric_tool.specs.Command.{are_ports, names_of, ins_of, count_of, place_of, input_of, output_at, port_count}
 use Rattle.run_files.specs.Names.{Among}

@@ -9,9 +9,9 @@ use Rattle.fab_base.specs.declared.values.Failed.{Failed}
 use Rattle.fab_base.proofs.EndingLemmas.{opens_in_uses}
 use Rattle.fab_base.proofs.SeenLemmas.{touches_trans, touches_wider}
 use Rattle.fab_config.specs.Settings.{Settings}
-use Rattle.fab_gather.specs.First.{start_at}
-use Rattle.fab_gather.specs.Ports.{slots_of}
-use Rattle.fab_gather.specs.declared.shelf.Input.{Input}
+use Rattle.window_records.specs.First.{start_at}
+use Rattle.window_records.specs.Ports.{slots_of}
+use Rattle.window_records.specs.declared.shelf.Input.{Input}
 use Rattle.fab_live.specs.Live.{LiveRuns}
 use Rattle.fab_live.specs.declared.fault.LiveFault.{LiveFault}
 use Rattle.fab_policy.specs.Standing.{Contents}

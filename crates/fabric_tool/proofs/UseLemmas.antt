@@ -3,7 +3,7 @@ use Rattle.std.proofs.Common.{ℕ, List, IsTrue, sym, subst}
 use Rattle.fab_base.specs.Ending.{End, Uses}
 use Rattle.fab_base.specs.Seen.{Seen, Touches, Nothing, SameFiles}
 use Rattle.fab_base.proofs.EndingLemmas.{none_yet, counts_then}
-use Rattle.fab_gather.proofs.UsesLemmas.{uses_touches}
+use Rattle.window_records.proofs.UsesLemmas.{uses_touches}
 use Rattle.run_files.specs.Names.{Among}
 use Rattle.fabric_tool.specs.Ending.{CountsOf}
 

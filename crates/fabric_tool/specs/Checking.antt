@@ -8,7 +8,7 @@ use Rattle.fab_config.specs.Settings.{Settings}
 use Rattle.pcap_file.specs.Capture.{HEAD}
 use Rattle.pcap_file.specs.declared.Budget.{Budget}
 use Rattle.fab_policy.specs.Journal.{Journal}
-use Rattle.fab_gather.specs.Looks.{Opened}
+use Rattle.window_records.specs.Looks.{Opened}
 use Rattle.fab_policy.specs.Standing.{Contents, Stands}
 use Rattle.fab_policy.specs.State.{tables_of}
 use Rattle.pcap_file.specs.declared.fault.CapWhy.{CapWhy}

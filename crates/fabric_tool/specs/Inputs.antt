@@ -9,12 +9,12 @@ use Rattle.pcap_file.specs.Capture.{HEAD, IsCapture, head_decoded}
 use Rattle.fab_config.specs.Settings.{Settings}
 use Rattle.fab_config.specs.Text.{decoded}
 use Rattle.fab_config.specs.declared.ConfigFault.{ConfigFault}
-use Rattle.fab_gather.specs.Looks.{Opened, Stop, stop, kept, all_records}
+use Rattle.window_records.specs.Looks.{Opened, Stop, stop, kept, all_records}
 use Rattle.pcap_file.specs.declared.fault.CapWhy.{CapWhy}
 use Rattle.run_files.specs.Faults.{fault_from}
 use Rattle.run_files.specs.declared.fault.RunFault.{RunFault}
 use Rattle.pcap_file.specs.Faults.{why_of}
-use Rattle.fab_gather.specs.Port.{ending}
+use Rattle.window_records.specs.Port.{ending}
 use Rattle.pcapng_file.specs.declared.NgRecord.{NgRecord}
 use Rattle.pcapng_file.specs.File.{IsNg}
 use Rattle.pcapng_file.specs.Laws.{Within}

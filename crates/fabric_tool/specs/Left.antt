@@ -8,7 +8,7 @@ use Rattle.heard_frames.specs.Heard.{decoded, d_id}
 use Rattle.fab_policy.specs.Journal.{Journal, followed, frame_count}
 use Rattle.fab_policy.specs.Live.{NamesTheLive}
 use Rattle.fab_policy.specs.Legal.{Legal}
-use Rattle.fab_gather.specs.Looks.{Opened, all_records}
+use Rattle.window_records.specs.Looks.{Opened, all_records}
 use Rattle.fab_policy.specs.Rules.{rule_for}
 use Rattle.fab_policy.specs.Sound.{IsGrantable, HaveDifferentMacs}
 use Rattle.fab_policy.specs.State.{Tables, tables_of, port_at, overdue, now_of}

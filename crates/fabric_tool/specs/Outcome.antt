@@ -11,7 +11,7 @@ use Rattle.pcapng_file.specs.declared.fault.NgWhy.TheVariants as ng
 use Rattle.pcapng_file.specs.declared.fault.NgLimit.{NgLimit}
 use Rattle.pcapng_file.specs.declared.fault.NgLimit.TheVariants as limits
 use Rattle.fabric_tool.specs.Help.{help_text, version_text}
-use Rattle.fab_gather.specs.Looks.{MOST_SPAN}
+use Rattle.window_records.specs.Looks.{MOST_SPAN}
 use Rattle.pcap_file.specs.declared.fault.CapWhy.{CapWhy}
 use Rattle.pcap_file.specs.declared.fault.CapWhy.TheVariants as caps
 use Rattle.pcap_file.specs.declared.fault.LimitKind.{LimitKind}

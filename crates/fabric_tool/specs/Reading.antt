@@ -13,9 +13,9 @@ use Rattle.pcap_file.specs.declared.Budget.{Budget}
 use Rattle.pcap_file.specs.declared.CapOpen.{CapOpen}
 use Rattle.pcapng_file.specs.declared.fault.NgError.{NgError}
 use Rattle.pcapng_file.specs.declared.fault.NgError.TheVariants as ng
-use Rattle.fab_gather.specs.First.{IsFresh, opened_by}
+use Rattle.window_records.specs.First.{IsFresh, opened_by}
 use Rattle.pcap_file.specs.Faults.{open_fault_by}
-use Rattle.fab_gather.specs.declared.shelf.Input.{Input}
+use Rattle.window_records.specs.declared.shelf.Input.{Input}
 use Rattle.pcap_file.specs.declared.fault.LimitKind.TheVariants as kinds
 use Rattle.fab_migrate.specs.declared.old.OldError.{OldError}
 use Rattle.fab_migrate.specs.declared.old.OldError.TheVariants as olds

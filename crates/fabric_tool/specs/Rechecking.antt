@@ -4,7 +4,7 @@ use Rattle.std.specs.declared.alloc.Global.{Global}
 use Rattle.fab_base.specs.Seen.{Seen}
 use Rattle.fab_base.specs.Sunk.{Sunk}
 use Rattle.pcap_file.specs.Capture.{HEAD}
-use Rattle.fab_gather.specs.Looks.{Opened, stop}
+use Rattle.window_records.specs.Looks.{Opened, stop}
 use Rattle.fab_policy.specs.Text.{text}
 use Rattle.fabric_tool.specs.Checking.{budget_of}
 use Rattle.fabric_tool.specs.Command.{RunNames, LiveWords, Command, Replay, Show, command}

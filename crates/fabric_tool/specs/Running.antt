@@ -3,7 +3,7 @@ use Rattle.std.specs.Prelude.{◌≡◌, ℕ, ◌⊎◌, ◌∷◌, ◌++◌, Is
 use Rattle.fab_base.specs.Seen.{SameFiles, Seen}
 use Rattle.fab_base.specs.Sunk.{Sunk}
 use Rattle.fab_config.specs.Settings.{Settings}
-use Rattle.fab_gather.specs.Looks.{Opened}
+use Rattle.window_records.specs.Looks.{Opened}
 use Rattle.pcap_file.specs.declared.fault.CapWhy.{CapWhy}
 use Rattle.fabric_tool.specs.Command.{RunNames}
 use Rattle.fabric_tool.specs.Ending.{Ending, Leaves, LeavesUnread, LeavesUnwritten, Never, Untouched}

@@ -7,10 +7,10 @@ use crate::command::{Width, count_of, input_of};
 use crate::outcome::Outcome;
 use crate::running::stopped;
 use fab_base::{Depot, PortNo};
-use fab_gather::Input;
 use pcap_file::{Budget, CapOpen, Reader, open_fault_of};
 use run_files::RunFault;
 use std::alloc::Global;
+use window_records::Input;
 
 /// Opens the captures of all ports, in port order, and reads their heads. Each takes 24 bytes from
 /// the budget, and is answered as past it before it is looked at.

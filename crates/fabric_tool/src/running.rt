@@ -15,7 +15,6 @@ use crate::outcome::Outcome;
 use crate::outputs::open_outputs;
 use fab_base::{Depot, Gate, word_at};
 use fab_config::Config;
-use fab_gather::Input;
 use fab_policy::{forwarding_rule, legal_journals, records_come_later};
 use fab_windows::{Done, run_windows};
 use forward_core::Fabric;
@@ -24,6 +23,7 @@ use run_files::RunFault;
 use std::alloc::Global;
 use std::sync::Wait;
 use std::thread::Threads;
+use window_records::Input;
 
 /// What a run begins with: the captures with their heads, what these leave of the limits, and a
 /// fabric to which nothing has happened.

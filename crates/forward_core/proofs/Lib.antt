@@ -1,10 +1,15 @@
 mod CarryLemmas
 mod DueLemmas
+mod FeatureLemmas
+mod FillLemmas
 mod FrameLemmas
 mod GrantedLemmas
 mod KeepLemmas
+mod MiddleLemmas
 mod NewLemmas
 mod RangeLemmas
+mod RefillLemmas
+mod ReloginLemmas
 mod ServiceLemmas
 mod TakeLemmas
 mod TickLemmas

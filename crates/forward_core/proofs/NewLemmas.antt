@@ -23,7 +23,7 @@ never from (suc n) = ap (λ l. past_of from [] ∷ l) (never (from + 1) n)
 abbrev made : List LivePort → List Past → Tables
 made ports past = record { clock = None; ports = ports; past = past }
 
-empty_tables_are : (c : Settings) → (empty_roll c).tables ≡ tables_of c []
+pub empty_tables_are : (c : Settings) → (empty_roll c).tables ≡ tables_of c []
 empty_tables_are c =
     ap (λ l. made l (unused (c.domain * 65536 + 256) c.pool)) (sym (nobody (c.domain * 65536 + 256) c.pool))
     ∙ ap (λ l. made (filter_map (λ a. live_port a []) (pool c)) l) (sym (never (c.domain * 65536 + 256) c.pool))

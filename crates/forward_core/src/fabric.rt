@@ -129,7 +129,7 @@ impl Fabric {
 }
 
 // The zones of a configuration and a roster without logins.
-fn empty_tables(alloc: Global, config: &Config) -> Result<(Zones, Roster), NoMemory>
+pub(crate) fn empty_tables(alloc: Global, config: &Config) -> Result<(Zones, Roster), NoMemory>
     ensures zones { IfOk result (λ t. t.0 ≡ zones_of config.now) }
     ensures roster { IfOk result (λ t. t.1 ≡ empty_roll config.now) }
     ensures sound { IfOk result (λ t. IsSoundRoll t.1) }

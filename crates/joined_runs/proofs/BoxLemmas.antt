@@ -12,7 +12,7 @@ use Rattle.heard_frames.specs.Heard.{source, asked}
 use Rattle.fab_policy.specs.Journal.{Journal}
 use Rattle.fab_policy.specs.Outputs.{Sent}
 use Rattle.fab_policy.specs.Text.{egress}
-use Rattle.fab_gather.specs.Looks.{all_records}
+use Rattle.window_records.specs.Looks.{all_records}
 use Rattle.fip_snoop.specs.Bridge.{Arrival, arrivals}
 use Rattle.side_runs.specs.Copies.{capture}
 use Rattle.fip_snoop.specs.Laws.{ENodesAreApart}

@@ -10,7 +10,7 @@ use Rattle.pcap_file.specs.Capture.{HEAD, Next, End, Found, CutHead, TooLong, Cu
 use Rattle.pcap_file.specs.Reading.{Why, failure}
 use Rattle.pcap_file.specs.Records.{size_of}
 use Rattle.pcap_file.proofs.lemmas.Chains.{found_stands, end_is, go_on, whole_on}
-use Rattle.fab_gather.specs.Looks.{Opened, Look, Spot, Stop, Fails, Span, looks_from, looks, looks_of, found_at, behind, first_spot, with_look, in_order, comes_before, taken, count_of, is_too_late, stop_at, stop_in, first_window, stop, records_in, all_records}
+use Rattle.window_records.specs.Looks.{Opened, Look, Spot, Stop, Fails, Span, looks_from, looks, looks_of, found_at, behind, first_spot, with_look, in_order, comes_before, taken, count_of, is_too_late, stop_at, stop_in, first_window, stop, records_in, all_records}
 use Rattle.fabric_tool.specs.Inputs.{AreCaptures, MOST_BYTES, MOST_FRAMES, stop_of}
 use Rattle.joined_runs.specs.Box.{IsAt}
 use Rattle.joined_runs.proofs.TakenLemmas.{enough_bytes}

@@ -35,43 +35,20 @@ fn next_of(alloc: Global, places: [usize; 3]) -> Result<Option<Head>, NoMemory> 
 
 #[test]
 fn the_least_moment_comes_first_and_then_the_least_port(rt: HostRuntime) -> Result<(), Fail> {
-    let alloc = rt.alloc();
-    assert_eq!(rt;
-        next_of(alloc, [0, 0, 0]),
-        Ok(Some(Head {
-            port: 2,
-            moment: 20
-        }))
-    );
-    assert_eq!(rt;
-        next_of(alloc, [0, 1, 0]),
-        Ok(Some(Head {
-            port: 1,
-            moment: 30
-        }))
-    );
-    assert_eq!(rt;
-        next_of(alloc, [1, 1, 0]),
-        Ok(Some(Head {
-            port: 2,
-            moment: 30
-        }))
-    );
-    assert_eq!(rt;
-        next_of(alloc, [1, 2, 0]),
-        Ok(Some(Head {
-            port: 3,
-            moment: 30
-        }))
-    );
-    assert_eq!(rt;
-        next_of(alloc, [1, 2, 1]),
-        Ok(Some(Head {
-            port: 1,
-            moment: 50
-        }))
-    );
-    assert_eq!(rt; next_of(alloc, [2, 2, 1]), Ok(None));
+    let rows = [
+        ([0, 0, 0], 2, 20),
+        ([0, 1, 0], 1, 30),
+        ([1, 1, 0], 2, 30),
+        ([1, 2, 0], 3, 30),
+        ([1, 2, 1], 1, 50),
+    ];
+    for (places, port, moment) in rows {
+        assert_eq!(rt;
+            next_of(rt.alloc(), places),
+            Ok(Some(Head { port, moment }))
+        );
+    }
+    assert_eq!(rt; next_of(rt.alloc(), [2, 2, 1]), Ok(None));
     Ok(())
 }
 
@@ -84,17 +61,26 @@ fn copied(alloc: Global, port: usize, way: &Way) -> Result<usize, NoMemory> {
 
 #[test]
 fn copies_go_where_the_way_leads(rt: HostRuntime) -> Result<(), Fail> {
-    let alloc = rt.alloc();
     let down = Way::Down(PortNo::new(2).unwrap());
     let dropped = Way::Dropped(SnoopRule::Vlan);
-    assert_eq!(rt; copied(alloc, 1, &Way::Up), Ok(19));
-    assert_eq!(rt; copied(alloc, 2, &Way::Up), Ok(0));
-    assert_eq!(rt; copied(alloc, 2, &down), Ok(19));
-    assert_eq!(rt; copied(alloc, 3, &down), Ok(0));
-    assert_eq!(rt; copied(alloc, 1, &Way::All), Ok(0));
-    assert_eq!(rt; copied(alloc, 64, &Way::All), Ok(19));
-    assert_eq!(rt; copied(alloc, 1, &dropped), Ok(0));
-    assert!(rt; is_dropped(&dropped));
+    let rows = [
+        (1, &Way::Up, 19),
+        (2, &Way::Up, 0),
+        (2, &down, 19),
+        (3, &down, 0),
+        (1, &Way::All, 0),
+        (64, &Way::All, 19),
+        (1, &dropped, 0),
+    ];
+    for (port, way, bytes) in rows {
+        assert_eq!(rt; copied(rt.alloc(), port, way), Ok(bytes));
+    }
+    Ok(())
+}
+
+#[test]
+fn only_what_is_dropped_says_so(rt: HostRuntime) -> Result<(), Fail> {
+    assert!(rt; is_dropped(&Way::Dropped(SnoopRule::Vlan)));
     assert!(rt; !is_dropped(&Way::All));
     Ok(())
 }

@@ -1,5 +1,5 @@
 //! Conversions, and what they write.
-use fab_base::{Depot, MemDepot, word_at};
+use fab_base::{Depot, MemDepot, NoMemory, word_at};
 use pcap_file::Budget;
 use pcapng_file::*;
 use std::alloc::Global;
@@ -20,39 +20,61 @@ const SMALL: [u8; 92] = [
     4, 0, 0, 0, 5, 0, 0, 0, 1, 2, 3, 4, 36, 0, 0, 0,
 ];
 
-// What a conversion of the small file answers under these limits, and what it wrote.
-fn converted(
-    rt: &impl Abort,
-    alloc: Global,
-    limits: Budget,
-) -> Result<(Result<u64, ConvertError>, Option<Vec<u8>>), Fail> {
+// A depot with the small file, and the name of one to be written.
+fn with_small(alloc: Global) -> Result<MemDepot, NoMemory> {
     let mut depot = MemDepot::new(alloc)?;
     depot.store(alloc, "in", &SMALL)?;
     depot.know(alloc, "out")?;
+    Ok(depot)
+}
+
+fn in_and_out(alloc: Global) -> Result<Vec<String>, NoMemory> {
     let mut words = Vec::new(alloc);
     for word in ["in", "out"] {
         words.push(String::from_str(alloc, word)?)?;
     }
-    assert!(rt; depot.knows_all(&words));
+    Ok(words)
+}
+
+// Converts the file of the first word into that of the second, under these limits.
+fn convert_words(
+    rt: &impl Abort,
+    alloc: Global,
+    depot: &mut MemDepot,
+    words: &[String],
+    limits: Budget,
+) -> Result<u64, ConvertError> {
+    assert!(rt; depot.knows_all(words));
     assert_eq!(rt; words.len(), 2);
-    let from = word_at(&words, 0);
-    let answer = convert(alloc, &mut depot, from, word_at(&words, 1), limits);
-    match depot.content("out") {
-        Some(bytes) => Ok((answer, Some(bytes.to_vec(alloc)?))),
-        None => Ok((answer, None)),
-    }
+    let from = word_at(words, 0);
+    convert(alloc, depot, from, word_at(words, 1), limits)
+}
+
+// What a conversion of the small file answers under these limits, and whether it wrote these bytes.
+fn assert_converted(
+    rt: &impl Abort,
+    alloc: Global,
+    limits: Budget,
+    answer: Result<u64, ConvertError>,
+    written: Option<&[u8]>,
+) -> Result<(), Fail> {
+    let words = in_and_out(alloc)?;
+    let mut depot = with_small(alloc)?;
+    assert_eq!(rt;
+        convert_words(rt, alloc, &mut depot, &words, limits),
+        answer
+    );
+    assert_eq!(rt; depot.content("out"), written);
+    Ok(())
 }
 
 #[test]
 fn a_file_is_converted(rt: HostRuntime) -> Result<(), Fail> {
-    let (answer, written) = converted(&rt, rt.alloc(), AMPLE)?;
-    assert_eq!(rt; answer, Ok(1));
     let capture = [
         0xd4, 0xc3, 0xb2, 0xa1, 2, 0, 4, 0, 0, 0, 0, 0, 0, 0, 0, 0, 0xff, 0xff, 0, 0, 1, 0, 0, 0,
         0, 0, 0, 0, 0xe8, 3, 0, 0, 4, 0, 0, 0, 5, 0, 0, 0, 1, 2, 3, 4,
     ];
-    let written = written.ok_or("a capture")?;
-    assert_eq!(rt; written.as_slice(), capture.as_slice());
+    assert_converted(&rt, rt.alloc(), AMPLE, Ok(1), Some(capture.as_slice()))?;
     Ok(())
 }
 
@@ -62,23 +84,24 @@ fn a_packet_past_the_limit_is_not_converted(rt: HostRuntime) -> Result<(), Fail>
         bytes: 92,
         frames: 0,
     };
-    let (answer, written) = converted(&rt, rt.alloc(), limits)?;
-    assert_eq!(rt;
-        answer.err(),
-        Some(ConvertError::Input(NgError::Limit(NgLimit::Frames)))
-    );
-    assert!(rt; written.is_none());
+    let why = ConvertError::Input(NgError::Limit(NgLimit::Frames));
+    assert_converted(&rt, rt.alloc(), limits, Err(why), None)?;
     Ok(())
 }
 
-#[test]
-fn a_stream_gives_a_packet(rt: HostRuntime) -> Result<(), Fail> {
-    let alloc = rt.alloc();
+// The first packet of the small file's stream.
+fn first_packet(alloc: Global) -> Result<Option<NgRecord>, Fail> {
     let mut depot = MemDepot::new(alloc)?;
     depot.store(alloc, "in", &SMALL)?;
     let slot = depot.open_in("in")?;
     let mut stream = NgStream::new(alloc, AMPLE);
-    let packet = stream.next(alloc, &mut depot, slot)?.ok_or("a packet")?;
+    let packet = stream.next(alloc, &mut depot, slot)?;
+    Ok(packet)
+}
+
+#[test]
+fn a_stream_gives_a_packet(rt: HostRuntime) -> Result<(), Fail> {
+    let packet = first_packet(rt.alloc())?.ok_or("a packet")?;
     assert_eq!(rt; packet.moment.0, 1);
     assert_eq!(rt; packet.face, 0);
     assert_eq!(rt; packet.original, 5);

@@ -17,9 +17,19 @@ fn bytes_are_appended_where_they_were_made(rt: HostRuntime) -> Result<(), Fail> 
     let mut out = b"ab".to_vec(alloc)?;
     append_made(alloc, b"cd".to_vec(alloc), &mut out)?;
     assert_eq!(rt; out.as_slice(), b"abcd".as_slice());
-    let mut reserved = Vec::with_capacity(alloc, 2)?;
+    Ok(())
+}
+
+#[test]
+fn bytes_are_appended_to_what_was_reserved(rt: HostRuntime) -> Result<(), Fail> {
+    let mut reserved = Vec::with_capacity(rt.alloc(), 2)?;
     append_reserved(&mut reserved, b"ef");
     assert_eq!(rt; reserved.as_slice(), b"ef".as_slice());
+    Ok(())
+}
+
+#[test]
+fn bytes_are_put_behind_one_another(rt: HostRuntime) -> Result<(), Fail> {
     let mut list = ArrayVec::<u8, 3>::new();
     put(&mut list, b"g");
     put(&mut list, b"hi");
@@ -28,15 +38,25 @@ fn bytes_are_appended_where_they_were_made(rt: HostRuntime) -> Result<(), Fail> 
 }
 
 #[test]
+fn bytes_are_those_that_were_copied(rt: HostRuntime) -> Result<(), Fail> {
+    let bytes = Bytes::copy(rt.alloc(), b"abc")?;
+    assert_eq!(rt; bytes.view(), b"abc".as_slice());
+    Ok(())
+}
+
+#[test]
+fn bytes_are_those_of_a_list(rt: HostRuntime) -> Result<(), Fail> {
+    let bytes = Bytes::from_vec(b"de".to_vec(rt.alloc())?);
+    assert_eq!(rt; bytes.view(), b"de".as_slice());
+    Ok(())
+}
+
+#[test]
 fn lists_keep_their_items(rt: HostRuntime) -> Result<(), Fail> {
     let alloc = rt.alloc();
-    let bytes = Bytes::copy(alloc, b"abc")?;
-    assert_eq!(rt; bytes.view(), b"abc".as_slice());
-    let bytes = Bytes::from_vec(b"de".to_vec(alloc)?);
-    assert_eq!(rt; bytes.view(), b"de".as_slice());
+    let address = FcId::new(0x01_0100).ok_or("an address")?;
     let mut list = IdList::new(alloc)?;
     assert_eq!(rt; list.len(), 0);
-    let address = FcId::new(0x01_0100).ok_or("an address")?;
     list.push(alloc, address)?;
     assert_eq!(rt; list.len(), 1);
     assert_eq!(rt; list.at(0).copied(), Some(address));
@@ -44,18 +64,23 @@ fn lists_keep_their_items(rt: HostRuntime) -> Result<(), Fail> {
     Ok(())
 }
 
+fn one_two_three(alloc: Global) -> Result<OwnedList<u8>, NoMemory> {
+    let mut list = OwnedList::empty(alloc);
+    list.push(alloc, 1)?;
+    list.append(alloc, OwnedList::from_vec([2, 3].to_vec(alloc)?))?;
+    Ok(list)
+}
+
 #[test]
 fn lists_are_joined_and_shortened(rt: HostRuntime) -> Result<(), Fail> {
-    let alloc = rt.alloc();
-    let mut list = OwnedList::empty(alloc);
-    assert_eq!(rt; list.pop(), None);
-    list.push(alloc, 1u8)?;
-    list.append(alloc, OwnedList::from_vec([2, 3].to_vec(alloc)?))?;
+    let mut list = one_two_three(rt.alloc())?;
     assert_eq!(rt; list.len(), 3);
     assert_eq!(rt; list.pop(), Some(3));
     assert_eq!(rt; list.pop(), Some(2));
     assert_eq!(rt; list.at(0).copied(), Some(1));
     assert_eq!(rt; list.at(1).copied(), None);
+    assert_eq!(rt; list.pop(), Some(1));
+    assert_eq!(rt; list.pop(), None);
     Ok(())
 }
 

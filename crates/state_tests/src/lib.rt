@@ -2,4 +2,6 @@
 #![tactic(auto)]
 
 #[cfg(test)]
+mod restored;
+#[cfg(test)]
 mod seams;

@@ -7,7 +7,7 @@ use std::alloc::{AllocError, Global};
 use std::test::Fail;
 
 /// Two ports, one login, and an address whose last login ended.
-const EXAMPLE: &str =
+pub(crate) const EXAMPLE: &str =
     "state 1\nclock 1783036800100\nadvertised 1783036796000\nchanges 12\ngreatest 1783036800142\nport 1 4711\nport 2 4705\naddress 010100 2100001b2100000a\naddress 010101 2100001b2100000b 1783036790000\nlogin 010100 2100001b2100000a 2000001b2100000a 1 001b2100000a 1783036799000 1783036760000 1 2000001b2100000a 0000010000000000000000000000000000000000000000000000000000000000 - 6469736b - 2112\n";
 
 /// The lines of the example.
@@ -25,13 +25,13 @@ const LINES: [&str; 10] = [
 ];
 
 /// The configuration that the example goes on under.
-const CONFIG: &str =
+pub(crate) const CONFIG: &str =
     "fcf-mac 00:05:1e:00:00:02\nvlan 100\ndomain 1\npool 4\nperiod 8000\nwindow 10\nlimit 2\n";
 
 /// The first address of the pool, and how many there are.
-const FIRST: u32 = 0x010100;
+pub(crate) const FIRST: u32 = 0x010100;
 
-const COUNT: u32 = 4;
+pub(crate) const COUNT: u32 = 4;
 
 #[test]
 fn an_example_is_read_and_written(rt: HostRuntime) -> Result<(), Fail> {
@@ -243,7 +243,7 @@ fn no_fabric_goes_on_from_such_a_login(rt: HostRuntime) -> Result<(), Fail> {
 }
 
 // The example with another text in the place of one that it has.
-fn replaced(alloc: Global, old: &str, new: &str) -> Result<String, Fail> {
+pub(crate) fn replaced(alloc: Global, old: &str, new: &str) -> Result<String, Fail> {
     match EXAMPLE.split_once(old) {
         Some((front, rest)) => Ok(format!(in alloc; "{front}{new}{rest}")?),
         None => Err(Fail::from("the example has no such text")),

@@ -171,7 +171,8 @@ def nobody_listed(behind: Behind) -> Iterator[Answer]:
         label = colons(name) if name else fcid(asker)
         behind.listed.add(asker)
         port = behind.ports.get(asker, listing.place[0])
-        yield Answer(Severity.BLOCKED, text, step, port, label, listing.moment // MILLISECOND, listing.moment // MILLISECOND, [listing.place])
+        severity = Severity.BLOCKED if listing.count > 1 else Severity.NOTED  # a host that asks once may be the first in its fabric
+        yield Answer(severity, text, step, port, label, listing.moment // MILLISECOND, listing.moment // MILLISECOND, [listing.place])
 
 
 # ---- SCSI

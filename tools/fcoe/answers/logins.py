@@ -1,6 +1,6 @@
 """Answers on logins that ended: by silence, by the switch, by another of their ENode."""
 from dataclasses import dataclass
-from heapq import merge
+from itertools import accumulate, islice
 from typing import Iterable, Iterator, Optional
 
 from ..errors import counted
@@ -8,6 +8,7 @@ from ..frames.columns import MILLISECOND
 from ..frames.heard import ALL_ENODES, CLEAR, KEEP_ALIVE, LOGIN, Heard, colons, fcid, number
 from ..moments import short
 from ..runs.fabric import Login
+from ..runs.inputs import Port
 from ..runs.looking import Look
 from .answer import About, Answer, Severity, times
 
@@ -15,6 +16,9 @@ GAP_PERIODS, LEAST_GAP, LONG_GAP = 4, 60_000, 600_000  # periods and millisecond
 PORT_PERIOD, SILENT = 90_000, 2  # milliseconds between the keep alives of a VN_Port; periods without one, from which on a clear link message follows from that
 VX_PORT = 11  # the descriptor of a clear link message that names a VN_Port
 HEEDED = 500  # milliseconds: Linux heeds no shorter advertised period
+Edge = tuple[int, int, int]  # of a time without frames: milliseconds, port and place of the frame there
+Rest = tuple[Edge, Edge]
+BEFORE, BEHIND = (-1 << 62, 0, 0), (1 << 62, 0, 0)  # the captures
 AGAIN = "its ENode logged in again (FLOGI)"
 
 
@@ -89,14 +93,25 @@ def gaps_of(look: Look) -> list[Gap]:
     """The times without any frame at any port, of several periods, in which the switch should have advertised; without its frames, of ten minutes."""
     has_switch = any(it.replies for it in look.captured)
     least = max(GAP_PERIODS * look.run.config.period, LEAST_GAP) if has_switch else LONG_GAP
-    moments = iter(merge(*(((moment // MILLISECOND, port.number, at) for at, moment in enumerate(port.frames.moments)) for port in look.captured)))
-    found: list[Gap] = []
-    last = next(moments, (0, 0, 0))
-    for it in moments:
-        if it[0] - last[0] >= least:
-            found.append(Gap(last[0], it[0], [(port, look.captured[port - 1].frames.number(at)) for _, port, at in (last, it)]))
-        last = max(last, it)
-    return found
+    common: list[Rest] = [(BEFORE, BEHIND)]
+    for port in look.captured:
+        own = rests_of(port, least)
+        common = [(max(one[0], other[0]), min(one[1], other[1])) for one in common for other in own]
+        common = [it for it in common if it[1][0] - it[0][0] >= least]
+    between = [it for it in common if it[0] != BEFORE and it[1] != BEHIND]
+    return [Gap(since[0], until[0], [(port, look.captured[port - 1].frames.number(at)) for _, port, at in (since, until)]) for since, until in between]
+
+
+def rests_of(port: Port, least: int) -> list[Rest]:
+    """The times without any frame at a port, with those before its first and behind its last."""
+    moments = port.frames.moments
+    clocks = [it // MILLISECOND for it in (moments[0], max(moments))] if moments else []
+    if not clocks:
+        return [(BEFORE, BEHIND)]
+    long = least * MILLISECOND - MILLISECOND  # in whole milliseconds it may be long enough
+    places = [at for at, (one, other) in enumerate(zip(accumulate(moments, max), islice(moments, 1, None)), 1) if other - one > long]
+    inner = [((max(moments[:at]) // MILLISECOND, port.number, at - 1), (moments[at] // MILLISECOND, port.number, at)) for at in places]
+    return [(BEFORE, (clocks[0], port.number, 0)), *inner, ((clocks[1], port.number, len(moments) - 1), BEHIND)]
 
 
 def gaps(look: Look) -> Iterator[Answer]:

@@ -57,7 +57,7 @@ def answers_text(rows: list[Row], first: int, most: Optional[int] = ANSWERED) ->
     """The answer on top: a few lines, worst first."""
     lines, told = list[str](), set[str]()
     for row in rows[:most]:  # a step that several have stands once
-        lines += answer_text({**row, "next": "as above"} if row["next"] in told else row, first)
+        lines += answer_text({**row, "next": "as above"} if row["next"] and row["next"] in told else row, first)
         told.add(row["next"])
     return lines + ([f"  and {len(rows) - most} more (look answers)"] if most is not None and len(rows) > most else [])
 

@@ -215,6 +215,8 @@ def drop_text(it: Drops) -> tuple[Severity, str, str]:
         return Severity.NOTED, f"{count}{from_to}: {fcid(it.never)} logged in before the capture began", "begin the capture before the host logs in"
     if it.verdict == "dropped zone":
         return Severity.DROPPED, f"{count}{from_to} dropped: no active zone joins the two", "a zone with both port names in the active zone set (`look zones`)"
+    if rule == "service-frame" and it.heard.kind == "ABTS":
+        return Severity.NOTED, f"{count}{from_to} aborts what found no answer in time (ABTS): what a switch does with it isn't judged here", ""
     if rule in OUTSIDE:
         return Severity.NOTED, f"{count}{from_to} ({it.heard.kind}), {meaning_of(it.verdict)}: what a switch does with them isn't judged here", ""
     if it.verdict == CUT:

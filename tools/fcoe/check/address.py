@@ -3,6 +3,8 @@ from typing import Iterator
 
 from ..frames.heard import LOGIN, colons, fcid, number
 from ..runs.configs import FPMA
+from .discovery import destination_of, shown, vlan_of
+from .habits import agree, by_address, odd_macs, stretches
 from .rules import ONE_WAY, Fault, Group, Tally, want
 from .talk import Grant, Shown, Talk, mac_in
 
@@ -19,16 +21,33 @@ def uses(talk: Talk) -> Iterator[Shown]:
 
 @RULES.rule("fpma-granted", "FC-BB-5, fabric-provided MAC addresses", "An N_Port sends from a MAC that was granted, and not before.")
 def granted(talk: Talk, tally: Tally) -> None:
+    if not talk.is_two_way:
+        granted_alone(talk, tally)
+        return
     for it in uses(talk):
         source = it.heard.source
         if talk.grant_of(source, it.at):
             tally.held.append(it)
-        elif not talk.is_two_way:
-            tally.leave(ONE_WAY, it)
         elif talk.began_before(it):
             tally.leave(EARLIER, it)
         else:
             judge_ungranted(talk, it, tally)
+
+
+def granted_alone(talk: Talk, tally: Tally) -> None:
+    """Of a host's direction alone: nothing before its FLOGI, and one MAC with each address while no other FLOGI comes."""
+    first = next((it for it in talk.logins if it.heard.login_kind == "FLOGI"), None)
+    for one in stretches(talk):
+        odd = {at: mac for some in by_address(one).values() for at, mac in odd_macs(some).items()}
+        for it in one.uses:
+            source = colons(it.heard.source)
+            if it.at in odd:
+                tally.judge(it, Fault("source", source, f"{colons(odd[it.at])}, as in other frames of its address"))
+            elif one.login is None and not talk.began_before(it):
+                is_near = first is not None and first.clock - it.clock < IN_FLIGHT
+                tally.lack("FLOGI", it, Fault("source", source, "nothing before a FLOGI"), missing=2 if is_near else 1)
+            else:
+                tally.leave(ONE_WAY, it)
 
 
 def judge_ungranted(talk: Talk, it: Shown, tally: Tally) -> None:
@@ -73,26 +92,30 @@ def of_own(talk: Talk, tally: Tally) -> None:
             tally.judge(it, want("source", colons(it.heard.source), f"the ENode's MAC, not the {colons(mac) if mac else 'MAC'} of a VN_Port", not is_fpma(it.heard.source)))
 
 
-def granted_uses(talk: Talk, tally: Tally) -> Iterator[tuple[Shown, Grant]]:
+def granted_uses(talk: Talk) -> Iterator[tuple[Shown, Grant]]:
     """Frames from a MAC that a grant of the capture gave, with the latest grant of it."""
     for it in uses(talk):
         found = talk.grant_of(it.heard.source, it.at)
         if found:
             yield it, found
-        elif not talk.is_two_way:
-            tally.leave(ONE_WAY, it)
 
 
 @RULES.rule("fcoe-destination", "FC-BB-5, FCoE virtual links", "FCoE goes to the forwarder that granted the address.")
 def to_forwarder(talk: Talk, tally: Tally) -> None:
-    for it, grant in granted_uses(talk, tally):
+    if not talk.is_two_way:
+        agree(talk, tally, "destination", destination_of, shown)
+        return
+    for it, grant in granted_uses(talk):
         tally.judge(it, want("destination", colons(it.heard.destination), colons(grant.forwarder)))
 
 
 @RULES.rule("fcoe-vlan", "FC-BB-5, FCoE virtual links; IEEE 802.1Q", "FCoE stays in the VLAN of its login.")
 def in_vlan(talk: Talk, tally: Tally) -> None:
     """The VLAN of a login is that of all that follows."""
-    for it, grant in granted_uses(talk, tally):
+    if not talk.is_two_way:
+        agree(talk, tally, "VLAN", vlan_of, shown)
+        return
+    for it, grant in granted_uses(talk):
         tally.judge(it, want("VLAN", it.heard.vlan, grant.granted.heard.vlan))
 
 

@@ -1,8 +1,10 @@
 """Rules on keep alives (FC-BB-5, FIP keep alive)."""
-from typing import Iterator, Optional
+from typing import Callable, Hashable, Iterator, Optional
 
-from ..frames.heard import KEEP_ALIVE, colons, fcid
-from .discovery import has_kinds
+from ..frames.heard import KEEP_ALIVE, colons, fcid, number
+from ..runs.configs import FPMA
+from .discovery import destination_of, has_kinds, shown, vlan_of
+from .habits import Say, judge_names, lot_of, stretches
 from .rules import ONE_WAY, Fault, Group, Tally, want
 from .talk import PERIODS, Shown, Talk, mac_in, period_in, vx_in
 
@@ -10,6 +12,7 @@ PORT_PERIOD = 90_000  # FKA_VN_PERIOD in milliseconds
 LATE = 1.5  # periods behind which one may be missing from the capture
 SURE = 4.5  # periods without one, behind which it isn't two that are lost
 OFTEN = 0.35  # periods from one to the next, below which that is more than asked for
+IN_FLIGHT = 2_000  # milliseconds (E_D_TOV) within which a keep alive may have crossed what ended the login
 HABIT = 4  # late keep alives, from which on it's no accident
 BOTH = ("Keep alive", "VN_Port keep alive")
 RULES = Group("keep alives")
@@ -46,8 +49,13 @@ def port_named(talk: Talk, tally: Tally) -> None:
     for it in talk.of("VN_Port keep alive"):
         for mac, address, name in vx_in(it.heard):
             found = talk.grant_of(mac, it.at)
-            if found is None:
-                tally.leave(ONE_WAY if not talk.is_two_way else "the grant of this MAC isn't in the capture", it)
+            fault = want("address", fcid(address), f"{fcid(number(mac[3:]))}, the end of its MAC", mac[:2] != FPMA or number(mac[3:]) == address)
+            if fault:
+                tally.judge(it, fault)
+            elif found is None and not talk.is_two_way:
+                judge_names(talk, it, address, (name, b""), tally)
+            elif found is None:
+                tally.leave("the grant of this MAC isn't in the capture", it)
             else:
                 tally.judge(it, want("address", fcid(address), fcid(found.address)))
                 if any(found.name):
@@ -56,16 +64,37 @@ def port_named(talk: Talk, tally: Tally) -> None:
 
 @RULES.rule("alive-destination", "FC-BB-5, FIP keep alive", "Keep alives go to the forwarder of the login.")
 def to_forwarder(talk: Talk, tally: Tally) -> None:
+    if not talk.is_two_way:
+        agree_alive(talk, tally, "destination", destination_of, shown)
     for it in talk.of(*BOTH):
         there = it.heard.destination
-        held = {grant.forwarder for grant in talk.grants if grant.granted.at < it.at}
+        ever = [grant for grant in talk.grants if grant.granted.at < it.at]
+        held = {grant.forwarder for grant in ever if grant.ended is None or it.clock < grant.ended.clock + IN_FLIGHT}
         advertised = {one.heard.source for one in talk.advertisements if one.at < it.at}
-        if held and there not in held and there in advertised:
-            tally.leave(f"it goes to {colons(there)}, a forwarder that the ENode may log in at next", it)
-        elif held:
-            tally.judge(it, want("destination", colons(there), " or ".join(map(colons, sorted(held))), there in held))
+        if there not in held and ever and (there in advertised or there in {grant.forwarder for grant in ever}):
+            tally.leave(f"it goes to {colons(there)}, a forwarder that the ENode may log in at next, or whose logins have ended", it)
+        elif ever:
+            should = sorted(held or {grant.forwarder for grant in ever})
+            tally.judge(it, want("destination", colons(there), " or ".join(map(colons, should)), there in held))
         else:
             tally.judge(it, want("destination", colons(there), "the forwarder's MAC", not there[0] & 1))
+
+
+def agree_alive(talk: Talk, tally: Tally, name: str, say: Say, show: Callable[[Hashable], str]) -> None:
+    """Keep alives of a host's direction alone are as the FLOGI of their time, as FCoE is: one that isn't, among many that are, or none that is."""
+    known = {say(one.login) for one in stretches(talk) if one.login}
+    for one in stretches(talk):
+        some, lot = [it for it in one.all if it.heard.kind in BOTH], lot_of(one.all, say)
+        due = say(one.login) if one.login else None
+        is_whole = bool(some) and due in {say(it) for it in one.uses if it.heard.is_fcoe} and all(say(it) != due for it in some)
+        for it in some:
+            fault = want(name, show(say(it)), f"{show(due)}, as of the FLOGI in frame {one.login.place if one.login else ''}", say(it) == due)
+            if one.login is None or fault and say(it) in known:
+                tally.leave(ONE_WAY, it)
+            elif fault is None or lot.is_odd(it.at, say(it), due):
+                tally.judge(it, fault)
+            elif is_whole:
+                tally.lack(("stretch", one.login.at), it, fault, missing=2 if one.is_prompt else 1)
 
 
 def spans(talk: Talk) -> Iterator[tuple[Shown, Optional[Shown], float]]:
@@ -92,19 +121,19 @@ def gaps(talk: Talk, tally: Tally, begin: Shown, end: float, beats: list[Shown],
     last = begin
     late: list[tuple[Shown, float, int]] = []
     for it in [*beats, None]:
-        clock, shown = it.clock if it else end, it or last
+        clock, frame = it.clock if it else end, it or last
         silent = [one.begin for one in talk.silences if one.last.heard.source == begin.heard.source and one.begin < clock and last.clock < one.end]
         gap = min([clock, *silent]) - last.clock
-        advertised = advertised_period(talk, begin.heard.source, last.clock, clock)
-        period = fixed if fixed and advertised else advertised
+        period = advertised_period(talk, begin.heard.source, last.clock, clock)
+        period = fixed if fixed and period else period
         if period and gap > PERIODS * period:
             fault = Fault("time without a keep alive", f"{gap / 1000:.1f} s after frame {last.place}", f"one each {period / 1000:g} s")
-            tally.lack(("beat", shown.at), shown, fault, missing=2 if gap > SURE * period else 1)
+            tally.lack(("beat", frame.at), frame, fault, missing=2 if gap > SURE * period else 1)
         elif period and gap > LATE * period:
-            late.append((shown, gap, period))
+            late.append((frame, gap, period))
         elif it and period:
             tally.held.append(it)
-        last = shown
+        last = frame
     judge_late(late, len(beats), tally)
 
 
@@ -138,9 +167,35 @@ def port_alive(talk: Talk, tally: Tally) -> None:
         end = grant.ended.clock if grant.ended else talk.end
         beats = [it for it in talk.of("VN_Port keep alive") if it.heard.source == grant.mac and grant.granted.at < it.at and (grant.ended is None or it.at < grant.ended.at)]
         gaps(talk, tally, grant.granted, end, beats, PORT_PERIOD)
-    if not talk.grants:
+    if not talk.is_two_way:
+        port_alive_alone(talk, tally)
+    elif not talk.grants:
         for it in talk.of("VN_Port keep alive"):
-            tally.leave(ONE_WAY if not talk.is_two_way else "the grant isn't in the capture", it)
+            tally.leave("the grant isn't in the capture", it)
+
+
+def port_alive_alone(talk: Talk, tally: Tally) -> None:
+    """Of a host's direction alone: while a MAC is used and the ENode's keep alives go on, so that D isn't set. One that sends none of VN_Ports can't be told."""
+    beats = list(talk.of("VN_Port keep alive"))
+    for one in stretches(talk):
+        breaks = [it.clock for it in talk.logins if it.heard.login_kind in ("FDISC", "LOGO")]
+        for mac in dict.fromkeys(it.heard.source for it in one.uses if beats):
+            judge_beats([it for it in one.uses if it.heard.source == mac], one.alive, breaks, tally)
+    tally.left += [(it, ONE_WAY) for it in beats[:1]]
+
+
+def judge_beats(uses: list[Shown], alive: list[Shown], breaks: list[float], tally: Tally) -> None:
+    """Judges the time between the keep alives of a MAC from its first use to its last."""
+    last = uses[0]
+    for it in uses:
+        if it.heard.kind != "VN_Port keep alive" and it is not uses[-1]:
+            continue
+        gap = it.clock - last.clock
+        are_alive = sum(last.clock < one.clock < it.clock for one in alive) * PORT_PERIOD >= gap
+        if gap > PERIODS * PORT_PERIOD and are_alive and not any(last.clock < clock < it.clock for clock in breaks):
+            fault = Fault("time without a keep alive", f"{gap / 1000:.1f} s after frame {last.place}", f"one each {PORT_PERIOD / 1000:g} s")
+            tally.lack(("beat", it.at), it, fault, missing=2 if gap > SURE * PORT_PERIOD else 1)
+        last = it
 
 
 @RULES.rule("alive-quiet", "FC-BB-5, FIP discovery, D bit", "None is sent while the forwarder says so by D.", is_choice=True)
@@ -167,11 +222,9 @@ def often(talk: Talk, tally: Tally) -> None:
 
 @RULES.rule("alive-vlan", "FC-BB-5, FIP keep alive; IEEE 802.1Q", "Keep alives go out in the VLAN of the login.")
 def in_vlan(talk: Talk, tally: Tally) -> None:
+    if not talk.is_two_way:
+        agree_alive(talk, tally, "VLAN", vlan_of, shown)
     for it in talk.of(*BOTH):
         grant = next((one for one in reversed(talk.grants) if one.granted.at < it.at and one.forwarder == it.heard.destination), None)
         if grant is not None:
             tally.judge(it, want("VLAN", it.heard.vlan, grant.granted.heard.vlan))
-        elif not talk.is_two_way:
-            asked = next((one for one in reversed(talk.logins) if one.at < it.at and one.heard.destination == it.heard.destination), None)
-            if asked is not None:
-                tally.judge(it, want("VLAN", it.heard.vlan, asked.heard.vlan))

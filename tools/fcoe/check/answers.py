@@ -1,7 +1,8 @@
 """Rules on what an N_Port answers, and on what it says of itself (FC-LS-2, FC-FS-3)."""
 from typing import Iterator, Optional
 
-from ..frames.heard import Fc, fcid, number
+from ..frames.heard import Fc, fcid
+from .habits import judge_names, names_of
 from .login import LOGIN_SIZE, login_faults, port_faults
 from .rules import Fault, Group, Tally, want
 from .talk import Exchange, Grant, Shown, Talk
@@ -30,7 +31,8 @@ def shaped(talk: Talk, size: int, kinds: tuple[str, ...], begin: bytes = b"") ->
         seen.add(it.at)
         yield it, fc
     for it, fc in talk.in_fcoe():
-        if fc.r_ctl == 0x23 and fc.payload[:1] == ACCEPT and len(fc.payload) >= size and it.at not in seen and it.at not in talk.exchanges.of_frame and fc.payload[1 : 1 + len(begin)] == begin:
+        is_shaped = fc.r_ctl == 0x23 and fc.payload.startswith(ACCEPT + begin) and len(fc.payload) >= size
+        if is_shaped and it.at not in seen and it.at not in talk.exchanges.of_frame:
             yield it, fc
 
 
@@ -51,22 +53,33 @@ def plogi_accept(talk: Talk, tally: Tally) -> None:
         tally.judge(it, *login_faults(fc.payload), *port_faults(fc.payload))
         held = login_of(talk, it, fc)
         asked = held.request if held else None
-        node = asked.payload[28:36] if asked and len(asked.payload) >= 36 else b""
+        node = asked.known[28:36] if asked else b""
         if held and any(held.name):
             tally.lack(held, it, want("port name", fc.payload[20:28].hex(), held.name.hex()), missing=2)
         if node and held:
             tally.lack(held, it, want("node name", fc.payload[28:36].hex(), node.hex()), missing=2)
+        if not talk.is_two_way:
+            judge_names(talk, it, fc.s_id, (fc.payload[20:28], fc.payload[28:36]), tally)
+
+
+def misshaped(talk: Talk) -> Iterator[tuple[Shown, Fc]]:
+    """Accepts of 20 bytes that say so and have a page of FCP, whose request isn't in the capture, with another page length than a PRLI's."""
+    for it, fc in talk.in_fcoe():
+        content = fc.payload
+        is_paged = fc.r_ctl == 0x23 and len(content) == PRLI_SIZE and content[:1] + content[2:5] == ACCEPT + b"\0\x14\x08"
+        if is_paged and content[1] != 16 and it.at not in talk.exchanges.of_frame:
+            yield it, fc
 
 
 @RULES.rule("prli-accept", "FC-LS-2, PRLI, LS_ACC", "The accept of a PRLI has a page of its type with a response code, and with functions where it was executed.")
 def prli_accept(talk: Talk, tally: Tally) -> None:
-    for it, fc in shaped(talk, PRLI_SIZE, ("PRLI",), b"\x10"):
+    for it, fc in (*shaped(talk, PRLI_SIZE, ("PRLI",), b"\x10"), *misshaped(talk)):
         content = fc.payload
         if len(content) < PRLI_SIZE:
             tally.judge(it, sized(fc, PRLI_SIZE))
             continue
         one = talk.exchanges.of_frame.get(it.at)
-        wanted = one.request.payload[4] if one and one.request.at != it.at and len(one.request.payload) > 4 else content[4]
+        wanted = one.request.known[4] if one and one.request.at != it.at and len(one.request.known) > 4 else content[4]
         code = content[6] & 0x0F
         tally.judge(
             it,
@@ -109,12 +122,25 @@ def named(talk: Talk, it: Shown, fc: Fc, tally: Tally) -> None:
     held = login_of(talk, it, fc)
     if held and any(held.name):
         tally.lack(held, it, want("port name", fc.payload[8:16].hex(), held.name.hex()), missing=2)
+    elif not talk.is_two_way:
+        judge_names(talk, it, fc.s_id, (fc.payload[8:16], fc.payload[16:24]), tally)
 
 
 @RULES.rule("adisc-accept", "FC-LS-2, ADISC, LS_ACC", "The answer to ADISC has the address and the names of the N_Port.")
 def adisc_accept(talk: Talk, tally: Tally) -> None:
     for it, fc, _ in own_answers(talk, "ADISC"):
         named(talk, it, fc, tally)
+    if not talk.is_two_way:
+        adisc_alone(talk, tally)
+
+
+def adisc_alone(talk: Talk, tally: Tally) -> None:
+    """Accepts of 28 bytes that have a name of this host are those of ADISC, and no others' counts."""
+    own = names_of(talk).all
+    for it, fc in talk.in_fcoe():
+        content = it.known
+        if fc.r_ctl == 0x23 and len(content) == ADISC_SIZE and content[:1] == ACCEPT and any(own[name] > 1 and any(name) for name in (content[8:16], content[16:24])):
+            named(talk, it, fc, tally)
 
 
 @RULES.rule("adisc-own", "FC-LS-2, ADISC", "An ADISC has the address and the names of who sends it.")

@@ -1,7 +1,8 @@
 """Rules on FIP in general, on VLAN requests, on solicitations, and on the choice of a forwarder (FC-BB-5, FIP)."""
-from typing import Iterator, Optional
+from typing import Hashable, Iterator, Optional
 
 from ..frames.heard import ADVERTISE, ALL_FCFS, KEEP_ALIVE, LOGIN, SOLICIT, VLAN_REQUEST, VLAN_TELL, Heard, colons, number
+from .habits import strayed, stretches
 from .rules import ONE_WAY, Fault, Group, Tally, want
 from .talk import Shown, Talk, mac_in
 
@@ -85,12 +86,32 @@ def reserved(talk: Talk, tally: Tally) -> None:
         tally.judge(it, *faults)
 
 
-def to_forwarders(it: Shown) -> list[Optional[Fault]]:
-    there = it.heard.destination
-    return [want("destination", colons(there), f"{colons(ALL_FCFS)} (All-FCF-MACs) or a forwarder's MAC", there == ALL_FCFS or not there[0] & 1)]
+def forwarders(talk: Talk) -> set[bytes]:
+    """The MACs that are forwarders', as they say so or as the ENode logs in there."""
+    found: set[bytes] = talk.told.get("forwarders") or {it.heard.source for it in talk.theirs if it.heard.is_fip} | {it.heard.destination for it in talk.logins if it.heard.is_fip}
+    talk.told["forwarders"] = found
+    return found
 
 
-RULES.each("vlan-request-destination", "FC-BB-5, FIP VLAN discovery", "A VLAN request goes to All-FCF-MACs or to a forwarder.", "VLAN request")(to_forwarders)
+def to_forwarders(kind: str, talk: Talk, tally: Tally) -> None:
+    """A MAC that isn't known for a forwarder's may be one's that fell silent before the capture began."""
+    for it in talk.of(kind):
+        there = it.heard.destination
+        fault = Fault("destination", colons(there), f"{colons(ALL_FCFS)} (All-FCF-MACs) or a forwarder's MAC")
+        if there == ALL_FCFS or there in forwarders(talk):
+            tally.held.append(it)
+        elif there[0] & 1:
+            tally.judge(it, fault)
+        elif talk.is_two_way and not talk.began_before(it):
+            tally.lack(("forwarder", there), it, fault, missing=2)
+        else:
+            tally.leave(f"{colons(there)} may be a forwarder's that isn't in the capture", it)
+
+
+@RULES.rule("vlan-request-destination", "FC-BB-5, FIP VLAN discovery", "A VLAN request goes to All-FCF-MACs or to a forwarder.")
+def asks_forwarders(talk: Talk, tally: Tally) -> None:
+    to_forwarders("VLAN request", talk, tally)
+
 
 
 def listed(kinds: list[int]) -> str:
@@ -149,7 +170,11 @@ def in_told_vlan(talk: Talk, tally: Tally) -> None:
             tally.leave(ONE_WAY, it)
 
 
-RULES.each("solicitation-destination", "FC-BB-5, FIP discovery", "A solicitation goes to All-FCF-MACs or to a forwarder.", "Solicitation")(to_forwarders)
+@RULES.rule("solicitation-destination", "FC-BB-5, FIP discovery", "A solicitation goes to All-FCF-MACs or to a forwarder.")
+def solicits_forwarders(talk: Talk, tally: Tally) -> None:
+    to_forwarders("Solicitation", talk, tally)
+
+
 RULES.each("solicitation-descriptors", "FC-BB-5, FIP operations", "A solicitation has MAC, name and size, each once.", "Solicitation")(with_kinds)
 RULES.each("solicitation-mac", "FC-BB-5, FIP discovery", "Its MAC descriptor is its source.", "Solicitation")(of_mac)
 
@@ -190,8 +215,32 @@ def known(talk: Talk, tally: Tally) -> None:
                     tally.lack(there, it, fault)
             else:
                 tally.leave("the capture may have begun after the advertisement", it)
-        elif it.heard.is_fip:
-            tally.leave(ONE_WAY, it)
+    if not talk.is_two_way:
+        known_alone(talk, tally)
+
+
+def known_alone(talk: Talk, tally: Tally) -> None:
+    """Of a host's direction alone: keep alives and FCoE go where the FLOGI went before them."""
+    for one in stretches(talk):
+        for name, say in (("destination", destination_of), ("VLAN", vlan_of)):
+            there = strayed(one, say)
+            if one.login is not None and there is not None:
+                fault = Fault(name, shown(say(one.login)), f"{shown(there)}, where all keep alives and FCoE behind it go")
+                tally.lack(("stretch", one.login.at), one.login, fault, missing=2 if one.is_prompt else 1)
+            elif one.login is not None:
+                tally.leave(ONE_WAY, one.login)
+
+
+def destination_of(it: Shown) -> Hashable:
+    return it.heard.destination
+
+
+def vlan_of(it: Shown) -> Hashable:
+    return it.heard.vlan
+
+
+def shown(value: Hashable) -> str:
+    return colons(value) if isinstance(value, bytes) else str(value)
 
 
 def logins(talk: Talk, tally: Tally) -> Iterator[tuple[Shown, Shown]]:
@@ -204,6 +253,14 @@ def logins(talk: Talk, tally: Tally) -> Iterator[tuple[Shown, Shown]]:
             yield it, found
         elif not talk.is_two_way:
             tally.leave(ONE_WAY, it)
+
+
+def unasked(talk: Talk, tally: Tally) -> None:
+    """Of a host's direction alone: FLOGIs behind a VLAN request and no solicitation."""
+    for it in talk.of("FLOGI"):
+        if it.heard.is_fip and begins_before(talk, it):
+            asked = any(one.at < it.at for one in talk.of("Solicitation"))
+            tally.lack("solicitation", it, want("solicitation before it", "none", "one, so that the forwarder answers with a whole frame", asked))
 
 
 @RULES.rule("forwarder-available", "FC-BB-5, FIP discovery, flag A (from memory)", "A FLOGI goes to a forwarder that is available for login.")
@@ -222,6 +279,8 @@ def same_kind_of_mac(talk: Talk, tally: Tally) -> None:
 @RULES.rule("forwarder-size", "FC-BB-5, FIP discovery, FCoE size (from memory)", "A FLOGI follows a solicited advertisement of the size that was asked for.")
 def padded(talk: Talk, tally: Tally) -> None:
     """The forwarder answered a solicitation of this ENode with an advertisement of the size that was asked for."""
+    if not talk.is_two_way:
+        unasked(talk, tally)
     for it, _ in logins(talk, tally):
         asked = [one for one in talk.of("Solicitation") if one.at < it.at]
         answers = [one for one in talk.advertisements if one.at < it.at and one.heard.source == it.heard.destination and one.heard.flags & SOLICITED]
@@ -230,7 +289,10 @@ def padded(talk: Talk, tally: Tally) -> None:
             tally.leave("no solicitation stands before it in the capture", it)
             continue
         wanted = number(size.data[2:4]) if size else 0
-        longest = max((one.port.frames.lengths[one.at] for one in answers), default=0)
+        longest, head = max(((one.port.frames.lengths[one.at], one.heard.at) for one in answers), default=(0, 0))
+        if longest - head < wanted <= longest:
+            tally.leave(f"{longest} bytes with the Ethernet header, which may or may not count to the {wanted} that were asked for", it)
+            continue
         fault = want("longest solicited advertisement before it", f"{longest} bytes" if longest else "none", f"{wanted} bytes as asked for", longest >= max(wanted, 1))
         if longest:
             tally.judge(it, fault)
@@ -256,7 +318,7 @@ def best(talk: Talk, tally: Tally) -> None:
 
 @RULES.rule("solicitation-size", "FC-BB-5, FIP discovery, Max_FCoE_Size", "The size that a solicitation asks for fits the receive size of the FLOGI, and FCoE.")
 def asked_size(talk: Talk, tally: Tally) -> None:
-    login = next((it for it in talk.logins if it.heard.login_kind == "FLOGI" and len(it.payload) >= 116), None)
+    login = next((it for it in talk.logins if it.heard.login_kind == "FLOGI" and len(it.known) >= 116), None)
     least = (number(login.payload[10:12]) & 0xFFF) + OVERHEAD if login and number(login.payload[10:12]) & 0xFFF >= 256 else 256 + OVERHEAD
     for it in talk.of("Solicitation"):
         found = it.heard.descriptor(6)
@@ -267,7 +329,7 @@ def asked_size(talk: Talk, tally: Tally) -> None:
 
 @RULES.rule("solicitation-name-own", "FC-BB-5, FIP discovery; FC-LS-2, FLOGI", "The name of a solicitation is the node name of the FLOGI.", is_choice=True)
 def own_name(talk: Talk, tally: Tally) -> None:
-    known = {it.payload[28:36] for it in talk.logins if it.heard.login_kind == "FLOGI" and len(it.payload) >= 116}
+    known = {it.payload[28:36] for it in talk.logins if it.heard.login_kind == "FLOGI" and len(it.known) >= 116}
     for it in talk.of("Solicitation"):
         found = it.heard.descriptor(4)
         if found is not None and known:

@@ -2,6 +2,7 @@
 from typing import Iterator
 
 from ..frames.heard import Fc, fcid
+from .habits import judge_names
 from .login import LOGO_SIZE, login_faults, port_faults
 from .rules import LEFT, ONE_WAY, Fault, Group, Tally, want
 from .talk import UNANSWERED, Exchange, Shown, Talk
@@ -168,6 +169,8 @@ def plogi(talk: Talk, tally: Tally) -> None:
                 tally.judge(it, *login_faults(fc.payload), *port_faults(fc.payload))
                 if held and any(held.name):
                     tally.lack(held, it, want("port name", fc.payload[20:28].hex(), held.name.hex()), missing=2)
+                elif not talk.is_two_way:
+                    judge_names(talk, it, fc.s_id, (fc.payload[20:28], fc.payload[28:36]), tally)
 
 
 def logged(talk: Talk, it: Shown, fc: Fc) -> tuple[bool, bool]:
@@ -177,7 +180,8 @@ def logged(talk: Talk, it: Shown, fc: Fc) -> tuple[bool, bool]:
     ended = [one.request.at for one in talk.exchanges.between(fc, "LOGO", it.at)]
     since = max([since, *ended])
     asked = [one for one in talk.exchanges.between(fc, "PLOGI", it.at) if one.request.at > since]
-    return bool(asked), any(is_accepted(one, it) for one in asked)  # of two that cross one is rejected
+    is_told = talk.exchanges.was_accepted(fc, since, it.at)
+    return bool(asked) or is_told, is_told or any(is_accepted(one, it) for one in asked)  # of two that cross one is rejected
 
 
 def is_accepted(one: Exchange, it: Shown) -> bool:
@@ -185,10 +189,30 @@ def is_accepted(one: Exchange, it: Shown) -> bool:
     return one.reply is not None and one.reply.at < it.at and one.reply.payload[:1] == b"\x02"
 
 
+def judge_alone(talk: Talk, it: Shown, fc: Fc, tally: Tally, missing: int = 1) -> None:
+    """Of a host's direction alone: behind its FLOGI, and its LOGO to the other, a PLOGI or the accept of one stands before a frame; `missing` frames else."""
+    login = next((one for one in reversed(talk.logins) if one.heard.login_kind == "FLOGI" and one.at < it.at), None)
+    if login is None:
+        tally.leave(ONE_WAY, it)
+        return
+    logos = [one.request for one in talk.exchanges.between(fc, "LOGO", it.at) if one.request.at > login.at]
+    since = logos[-1] if logos else login
+    asked = [one.request for one in talk.exchanges.asked(fc, "PLOGI") if one.request.at > since.at]
+    if any(one.at < it.at for one in asked) or talk.exchanges.was_accepted(fc, since.at, it.at):
+        tally.held.append(it)
+        return
+    is_soon = any(one.clock - it.clock < E_D_TOV for one in asked)  # it comes behind, so that none is missing before
+    fault = Fault("N_Port login", f"none since the {since.heard.kind} in frame {since.place}", f"a PLOGI between {fcid(fc.s_id)} and {fcid(fc.d_id)}")
+    tally.lack((fc.s_id, fc.d_id, since.at), it, fault, missing=2 if is_soon else missing)
+
+
 def behind_plogi(talk: Talk, it: Shown, fc: Fc, tally: Tally) -> None:
     """Judges that an N_Port login stands before a frame."""
+    if not talk.is_two_way:
+        judge_alone(talk, it, fc, tally)
+        return
     asked, accepted = logged(talk, it, fc)
-    if accepted or asked and not talk.is_two_way:
+    if accepted:
         tally.held.append(it)
     elif not talk.grant_of(it.heard.source, it.at):
         tally.leave("the login of its N_Port isn't in the capture", it)
@@ -258,6 +282,8 @@ def logo(talk: Talk, tally: Tally) -> None:
             )
             if held and any(held.name):
                 tally.lack(held, it, want("port name", payload[8:16].hex(), held.name.hex()), missing=2)
+            elif not talk.is_two_way:
+                judge_names(talk, it, fc.s_id, (payload[8:16], b""), tally)
 
 
 @RULES.rule("abts-form", "FC-FS-3, ABTS, BA_ACC, BA_RJT", "An ABTS has no payload, BA_ACC 12 bytes, BA_RJT 4.")

@@ -1,6 +1,6 @@
 """Rules on each frame: Ethernet, tag, FCoE, delimiters, check sequence, F_CTL, counts, sizes (IEEE 802.3, 802.1Q, FC-BB-5, FC-FS-3)."""
 from collections import Counter
-from dataclasses import dataclass
+from dataclasses import dataclass, field
 from typing import Iterator, Optional
 
 from ..frames.fields import DELIMITERS, delimiter
@@ -151,6 +151,7 @@ class Counted:
 
     due: int
     offset: int = -1
+    seen: set[int] = field(default_factory=set)  # of the frames before, so that one that stands twice is known
 
     def is_next(self, fc: Fc) -> bool:
         return self.offset >= 0 and bool(fc.f_ctl & OFFSET_HELD) and offset_of(fc) == self.offset
@@ -161,30 +162,32 @@ def offset_of(fc: Fc) -> int:
     return number(fc.data[fc.at + 20 : fc.at + 24])
 
 
-@RULES.rule("seq-cnt", "FC-FS-3, SEQ_CNT", "It begins at 0 in an exchange and goes up by one within a sequence.")
+@RULES.rule("seq-cnt", "FC-FS-3, SEQ_CNT", "It begins at 0 with each side's first sequence of an exchange and goes up by one within a sequence.")
 def counted(talk: Talk, tally: Tally) -> None:
     """SEQ_CNT of the frames of a sequence goes up by one; where the relative offset goes on, no frame is missing."""
     running: dict[tuple[int, int, int, int, bool], Counted] = {}
-    before: Optional[Shown] = None
     for it, fc in whole(talk):
         key, start = sequence_key(fc), it.heard.data[it.heard.at + 13]
-        due = running.get(key)
+        due, mark = running.get(key), hash(it.heard.data)
         count = fc.seq_cnt
-        if start in (SOFI3, SOFI2) or due is None:
-            if fc.f_ctl & FIRST_SEQUENCE and start in (SOFI3, SOFI2):
-                tally.judge(it, want("SEQ_CNT", count, 0))
-        elif before is not None and before.heard.data == it.heard.data:
+        if due is not None and mark in due.seen:
             tally.leave("the same frame twice in the capture", it)
+            continue
+        if start in (SOFI3, SOFI2) or due is None:
+            is_reply = fc.r_ctl in (0x23, 0x03) and fc.kind in (0x01, 0x20)  # the only sequence of its responder
+            if (fc.f_ctl & FIRST_SEQUENCE or is_reply) and start in (SOFI3, SOFI2):
+                tally.judge(it, want("SEQ_CNT", count, 0))
         elif count > due.due and not due.is_next(fc):
             tally.leave(f"SEQ_CNT {count} after {due.due - 1}: frames may be missing from the capture", it)
         else:
             tally.judge(it, want("SEQ_CNT", count, due.due))
             count = due.due
         size = len(fc.payload) - (fc.f_ctl & FILL)
-        running[key] = Counted((count + 1) & 0xFFFF, offset_of(fc) + size if fc.f_ctl & OFFSET_HELD else -1)
+        seen = due.seen if due is not None and start not in (SOFI3, SOFI2) else set[int]()
+        running[key] = Counted((count + 1) & 0xFFFF, offset_of(fc) + size if fc.f_ctl & OFFSET_HELD else -1, seen)
+        seen.add(mark)
         if fc.f_ctl & END_SEQUENCE:
             running.pop(key)
-        before = it
 
 
 def size_in(payload: bytes) -> Optional[int]:

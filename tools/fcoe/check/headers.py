@@ -23,9 +23,9 @@ def whole(talk: Talk) -> Iterator[tuple[Shown, Fc]]:
 
 
 def has_class2(talk: Talk) -> bool:
-    """The ENode offers class 2 in a FLOGI; or none is there."""
-    asked = [it.payload for it in talk.logins if it.heard.login_kind == "FLOGI" and len(it.payload) >= 116]
-    return not asked or any(it[52] & 0x80 for it in asked)
+    """The ENode offers class 2 in a FLOGI; or one may be missing, or is cut."""
+    asked = [it for it in talk.logins if it.heard.login_kind == "FLOGI"]
+    return not asked or any(not it.is_whole or len(it.known) >= 116 and it.known[52] & 0x80 for it in asked)
 
 
 @RULES.rule("delimiter-class", "FC-BB-5, FCoE frame format; FC-FS-3, frame delimiters", "An N_Port's frames are of class 3, or of class 2 where it offers that, and end with EOFn or EOFt.")

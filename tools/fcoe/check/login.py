@@ -3,7 +3,8 @@ from typing import Iterator, Optional
 
 from ..frames.heard import FABRIC_PORT, LOGIN_REPLY, Fc, colons, fcid, number
 from .discovery import BEHIND, FP, SOON, SP, has_kinds
-from .rules import LEFT, ONE_WAY, Fault, Group, Tally, want
+from .habits import judge_names, mac_before
+from .rules import CUT, LEFT, ONE_WAY, Fault, Group, Tally, want
 from .talk import Shown, Talk, mac_in
 
 COMMANDS = {"FLOGI": 0x04, "FDISC": 0x51, "LOGO": 0x05}
@@ -129,12 +130,18 @@ def first_flogi(talk: Talk, tally: Tally) -> None:
     """An FDISC goes out where the ENode has a login, and the fabric grants several addresses."""
     for it, _ in sent(talk, "FDISC"):
         live = [grant for grant in talk.live(it.at, talk.mac) if grant.granted.heard.login_kind == "FLOGI"]
-        if not talk.is_two_way or not live and talk.began_before(it):
-            tally.leave(ONE_WAY if not talk.is_two_way else "the ENode may have logged in before the capture began", it)
+        if not live and talk.began_before(it):
+            tally.leave("the ENode may have logged in before the capture began", it)
+            continue
+        if not talk.is_two_way and any(one.at < it.at and one.heard.login_kind == "FLOGI" for one in talk.logins):
+            tally.leave(ONE_WAY, it)
             continue
         if not live:
-            asked = any(one.at < it.at and one.heard.login_kind == "FLOGI" for one in talk.logins)
+            asked = not talk.is_two_way or any(one.at < it.at and one.heard.login_kind == "FLOGI" for one in talk.logins)
             tally.lack("FLOGI", it, Fault("login of its ENode", "none", "an accepted FLOGI"), missing=1 if asked else 2)
+            continue
+        if not live[0].granted.is_whole:
+            tally.leave(CUT, it)
             continue
         features = number(live[0].granted.payload[8:10])
         tally.judge(it, want(f"features in the accept, frame {live[0].granted.place}", f"{features:04x}", "2000 (several addresses) set", bool(features & MANY)))
@@ -157,6 +164,10 @@ def logged_out(talk: Talk, tally: Tally) -> None:
         )
         if held and any(held.name):
             tally.lack(held, it, want("port name", colons(payload[8:16]), colons(held.name)), missing=2)
+        if not talk.is_two_way and mac:
+            used = mac_before(talk, fc.s_id, it.at)
+            tally.judge(it, want("MAC descriptor", colons(mac), f"{colons(used)}, from which the frames of this address came", mac == used) if used else None)
+            judge_names(talk, it, fc.s_id, (payload[8:16], b""), tally)
 
 
 @RULES.rule("login-again", "FC-BB-5, FIP FLOGI; FC-LS-2, FLOGI", "A FLOGI without an answer is repeated, and not at once.", is_choice=True)
@@ -203,7 +214,7 @@ def other_name(talk: Talk, tally: Tally) -> None:
         name = fc.payload[20:28]
         first = next((grant for grant in talk.live(it.at, talk.mac) if grant.granted.heard.login_kind == "FLOGI"), None)
         asked = next((one for one, _ in reversed(list(sent(talk, "FLOGI"))) if one.at < it.at), None)
-        known = first.name if first else asked.payload[20:28] if asked else b""
+        known = first.name if first else asked.known[20:28] if asked else b""
         if known:
             tally.judge(it, want("port name", colons(name), "another than that of the FLOGI", name != known))
 

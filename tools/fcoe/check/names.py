@@ -150,7 +150,7 @@ def reserved(talk: Talk, tally: Tally) -> None:
 
 @RULES.rule("register-names", "FC-GS-6, RNN_ID", "RNN_ID registers the node name of the FLOGI or FDISC.", is_choice=True)
 def own_node(talk: Talk, tally: Tally) -> None:
-    known = {it.payload[28:36] for it in talk.logins if it.heard.login_kind in ("FLOGI", "FDISC") and len(it.payload) >= 116}
+    known = {it.payload[28:36] for it in talk.logins if it.heard.login_kind in ("FLOGI", "FDISC") and len(it.known) >= 116}
     for it, _, rest in requests(talk, 0x0213):
         if known and len(rest) >= 12:
             tally.usual(it, want("node name", rest[4:12].hex(), " or ".join(one.hex() for one in sorted(known)), rest[4:12] in known))

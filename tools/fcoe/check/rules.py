@@ -12,7 +12,7 @@ LEFT = "the standards leave it open"
 CUT = "the frame is cut by the snap length"
 GUESSED = "the order of both directions is a guess"
 ALONE = "a single frame may have been lost on the wire, or by the tap"
-PLENTY = 1000  # frames whose loss would be seen, behind which a single one that is missing is no accident
+PLENTY, ENOUGH = 1000, 400  # frames whose loss would be seen, behind which a single one that is missing is no accident; of a host's direction alone
 
 
 @dataclass(frozen=True)
@@ -77,7 +77,7 @@ class Tally:
             sign = next((one for one in signs if it.missing == 1 or not one.is_wire), None)
             if sign is not None:
                 self.leave(f"{it.fault.field} {it.fault.stands}: frames are missing ({sign.what})", it.it)
-            elif it.missing > 1 or len(causes) > 1 or talk.accounted >= PLENTY:
+            elif it.missing > 1 or len(causes) > 1 or talk.accounted >= (PLENTY if talk.is_two_way else ENOUGH):
                 self.broken.append((it.it, it.fault))
             else:
                 self.leave(f"{it.fault.field} {it.fault.stands}: {ALONE}", it.it)

@@ -3,8 +3,8 @@ from dataclasses import dataclass, field
 from typing import Iterator, Optional
 
 from ..frames.heard import Fc, fcid, number
-from .exchange import ended_between
-from .rules import ONE_WAY, Fault, Group, Tally, want
+from .exchange import ended_between, judge_alone
+from .rules import CUT, ONE_WAY, Fault, Group, Tally, want
 from .talk import END_SEQUENCE, Exchange, Shown, Talk, is_alike
 
 FCP, COMMAND, DATA, READY, RESPONSE = 0x08, 0x06, 0x01, 0x05, 0x07
@@ -39,11 +39,19 @@ class Task:
     out: list[tuple[Shown, Fc]] = field(default_factory=list)
     back: list[tuple[Shown, Fc]] = field(default_factory=list)
     ready: list[tuple[Shown, Fc]] = field(default_factory=list)
+    behind: list[Shown] = field(default_factory=list)  # data and FCP_XFER_RDY behind the response: of a command that isn't there, or too late
     response: Optional[Shown] = None
+
+    @property
+    def is_plain(self) -> bool:
+        """Data go in one direction, and none came behind the response."""
+        return not self.manages and not self.behind and self.flags != READS | WRITES
 
     def take(self, it: Shown, fc: Fc, is_back: bool) -> None:
         kind = fc.r_ctl & 0x0F
-        if kind == DATA:
+        if self.response is not None and kind in (DATA, READY):
+            self.behind.append(it)
+        elif kind == DATA:
             (self.back if is_back else self.out).append((it, fc))
         elif kind == READY:
             self.ready.append((it, fc))
@@ -61,7 +69,7 @@ def tasks(talk: Talk) -> list[Task]:
 def told_tasks(talk: Talk) -> Iterator[Task]:
     for one in talk.exchanges.all:
         fc = one.request.fc
-        if fc is None or fc.kind != FCP or fc.r_ctl != COMMAND or len(fc.payload) < COMMAND_SIZE:
+        if fc is None or fc.kind != FCP or fc.r_ctl != COMMAND or len(fc.payload) < COMMAND_SIZE or not one.request.is_whole:
             continue
         content = fc.payload
         made = Task(one, number(content[28:32]), content[11] & 3, content[10])
@@ -120,8 +128,8 @@ def may_begin(talk: Talk, task: Task) -> bool:
     """A process login that says that writes begin without FCP_XFER_RDY, or one that isn't there."""
     fc = task.one.request.fc
     asked = talk.exchanges.between(fc, "PRLI", task.one.request.at) if fc else []
-    functions = [it.payload[19] for one in asked for it in (one.request, one.reply) if it is not None and len(it.payload) >= 20]
-    return not functions or any(it & NO_READY for it in functions)
+    told = [it for one in asked for it in (one.request, one.reply) if it is not None and len(it.payload) >= 20]
+    return not told or any(not it.is_whole or it.payload[19] & NO_READY for it in told)
 
 
 @RULES.rule("fcp-ready", "FCP-4, FCP_XFER_RDY IU", "Data are written once they are asked for, and no more than that.")
@@ -132,6 +140,8 @@ def asked_for(talk: Talk, tally: Tally) -> None:
             continue
         if not talk.is_two_way:
             tally.leave(ONE_WAY, own_data[0][0])
+        elif not all(it.is_whole for it, _ in task.ready):
+            tally.leave(CUT, own_data[0][0])
         elif may_begin(talk, task):
             tally.leave("no PRLI is there, or it says that writes begin without FCP_XFER_RDY", own_data[0][0])
         else:
@@ -208,7 +218,7 @@ def response_form(talk: Talk, tally: Tally) -> None:
 def residual(talk: Talk, tally: Tally) -> None:
     for task in tasks(talk):
         it = task.response
-        if it is None or it.is_switch or task.manages or len(it.payload) < RESPONSE_SIZE or it.payload[11] or task.flags == READS | WRITES:
+        if it is None or it.is_switch or len(it.payload) < RESPONSE_SIZE or it.payload[11] or not task.is_plain:
             continue
         flags, told = it.payload[10], number(it.payload[12:16])
         some = task.back if task.flags & READS else task.out
@@ -228,7 +238,7 @@ def last_of_all(talk: Talk, tally: Tally) -> None:
         end = task.response
         if end is None or end.is_switch:
             continue
-        late = next((it for it, _ in [*task.back, *task.ready] if it.at > end.at and not it.is_switch and not any(is_alike(it, one) for one in task.one.frames if one.at < end.at)), None)
+        late = next((it for it in task.behind if not it.is_switch and not any(is_alike(it, one) for one in task.one.frames if one.at < end.at)), None)
         tally.judge(end, want("FCP_RSP", f"before frame {late.place}", "behind all data") if late else None)
 
 
@@ -276,6 +286,9 @@ def command_ends(talk: Talk, tally: Tally) -> None:
 @RULES.rule("fcp-after-plogi", "FC-LS-2, PLOGI and LOGO", "FCP commands go to N_Ports with which a login stands: not behind a LOGO, nor without a PLOGI.")
 def behind_login(talk: Talk, tally: Tally) -> None:
     for it, fc in own(talk, COMMAND):
+        if not talk.is_two_way:
+            judge_alone(talk, it, fc, tally, missing=1 if talk.exchanges.between(fc, "PRLI", it.at) else 2)
+            continue
         if not talk.grant_of(it.heard.source, it.at):
             tally.leave("the login of its N_Port isn't in the capture", it)
             continue

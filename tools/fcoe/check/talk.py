@@ -3,7 +3,7 @@ from bisect import bisect_left, bisect_right
 from dataclasses import dataclass, field
 from functools import cached_property
 from itertools import accumulate
-from typing import Any, ClassVar, Hashable, Iterator, Optional, Sequence
+from typing import Any, ClassVar, Hashable, Iterator, Optional
 
 from ..frames.columns import MILLISECOND
 from ..frames.heard import ADVERTISE, ALL_ENODES, CLEAR, KEEP_ALIVE, LOGIN, LOGIN_REPLY, Fc, Heard, colons, granted_in, hear, login_names, number
@@ -18,6 +18,7 @@ KEPT = 50_000  # frames that are looked at, up to which they stay decoded
 RESPONDER, LAST_SEQUENCE, END_SEQUENCE = 0x800000, 0x100000, 0x080000
 REQUESTS = (0x22, 0x02, 0x06)  # R_CTL of what begins an exchange: a link service, a CT_IU, an FCP command
 ANSWERS_TO_ABTS, ACKNOWLEDGES = ("BA_ACC", "BA_RJT"), 0xC0
+LOGIN_SIZE = 116  # bytes of a PLOGI and of its accept
 UNANSWERED = ("LOGO", "TEST")  # who has no login may not answer the one, and nobody answers the other
 LONGEST = 65535  # bytes of a frame: a length on the wire that is spoiled takes no room
 LATE, REGULAR = 1.6, 4  # periods without a keep alive, and how many come on time for each that doesn't, for one to be lost
@@ -67,6 +68,11 @@ class Shown:
     @property
     def is_whole(self) -> bool:
         return self.port.frames.is_whole(self.at)
+
+    @property
+    def known(self) -> bytes:
+        """The payload, where nothing of the frame is cut off: what rules on other frames may read of it."""
+        return self.payload if self.is_whole else b""
 
 
 @dataclass(eq=False)
@@ -193,6 +199,7 @@ class Exchanges:
         self.open: dict[Hashable, Exchange] = {}
         self.of_frame: dict[int, Exchange] = {}
         self.by_pair: dict[frozenset[int], list[Exchange]] = {}  # of PLOGI, PRLI and LOGO, by both addresses
+        self.accepts: dict[frozenset[int], list[Shown]] = {}  # of PLOGIs, whose requests may be missing
 
     def begin(self, it: Shown, key: Hashable) -> Exchange:
         if it.heard.kind == "LOGO":
@@ -206,9 +213,23 @@ class Exchanges:
             self.by_pair.setdefault(frozenset((it.fc.s_id, it.fc.d_id)), []).append(made)
         return made
 
+    def note_accept(self, it: Shown) -> None:
+        """An LS_ACC that is as long as a PLOGI's or PDISC's says that one was accepted, where its request isn't in the capture."""
+        fc = it.heard.fc
+        if fc is not None and it.heard.is_fcoe and fc.r_ctl == 0x23 and len(fc.payload) >= LOGIN_SIZE and fc.payload[:1] == b"\x02":
+            self.accepts.setdefault(frozenset((fc.s_id, fc.d_id)), []).append(it)
+
+    def was_accepted(self, fc: Fc, since: int, at: int) -> bool:
+        """An accept of a PLOGI between both ends of a frame stands between two places."""
+        return any(since < it.at < at for it in self.accepts.get(frozenset((fc.s_id, fc.d_id)), []))
+
     def between(self, fc: Fc, kind: str, at: int) -> list[Exchange]:
         """The exchanges of a kind between both ends of a frame, before it."""
-        return [it for it in self.by_pair.get(frozenset((fc.s_id, fc.d_id)), []) if it.request.heard.kind == kind and it.request.at < at]
+        return [it for it in self.asked(fc, kind) if it.request.at < at]
+
+    def asked(self, fc: Fc, kind: str) -> list[Exchange]:
+        """The same, whenever they are."""
+        return [it for it in self.by_pair.get(frozenset((fc.s_id, fc.d_id)), []) if it.request.heard.kind == kind]
 
     def log_out(self, it: Shown) -> None:
         """A LOGO ends the exchanges between both N_Ports."""
@@ -221,6 +242,7 @@ class Exchanges:
 
     def take(self, it: Shown) -> None:
         key = exchange_key(it)
+        self.note_accept(it)
         if key is None:
             return
         found = self.open.get(key)
@@ -340,7 +362,7 @@ class Talk:
         asked = self.request_of(it)
         if asked is not None and any(one.request is asked and one.address == address for one in self.grants):
             return  # the same accept once more
-        names = login_names(asked.heard) if asked else None
+        names = login_names(asked.heard) if asked and asked.is_whole else None
         if it.heard.login_kind == "FLOGI" and not self.is_second(it, asked):
             for grant in self.live(it.at, it.heard.destination):
                 grant.ended, grant.why = it, "login"
@@ -405,7 +427,8 @@ class Talk:
     @property
     def accounted(self) -> int:
         """Frames whose loss would be seen: those of sequences and discovery, and of exchanges that were answered."""
-        return self.port.tidy.accounted + self.port.left_out * self.is_two_way + sum(len(it.frames) for it in self.exchanges.all if it.reply is not None)
+        beats = sum(it.heard.kind == "Keep alive" for it in self.own)
+        return self.port.tidy.accounted + self.port.left_out * self.is_two_way + beats + sum(len(it.frames) for it in self.exchanges.all if it.reply is not None)
 
     @cached_property
     def signs(self) -> list[Sign]:
@@ -432,7 +455,8 @@ class Talk:
             asked[key] = one
         for it in self.frames:
             fc = it.heard.fc
-            if fc is not None and it.heard.is_fcoe and fc.is_reply and it.at not in self.exchanges.of_frame and self.is_known(fc, it) and not self.is_misnumbered(fc, it):
+            is_alone = fc is not None and it.heard.is_fcoe and fc.is_reply and it.at not in self.exchanges.of_frame
+            if fc is not None and is_alone and self.is_known(fc, it) and not self.is_misnumbered(fc, it):
                 yield Sign(f"frame {it.place} answers a request that isn't there", it.at)
 
     def is_misnumbered(self, fc: Fc, it: Shown) -> bool:
@@ -503,7 +527,7 @@ class Owners:
         """The ENode behind a MAC at a place of the capture."""
         if mac in self.enodes:
             return mac
-        told = self.granted.get(mac) or self.named.get(mac)
+        told = self.granted.get(mac) or [it for it in self.named.get(mac, []) if not self.enodes or it[1] in self.enodes]
         if told:
             return next((enode for place, enode in reversed(told) if place <= at), told[0][1])
         return next(iter(self.enodes)) if len(self.enodes) == 1 else mac

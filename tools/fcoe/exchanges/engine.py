@@ -4,17 +4,11 @@ from dataclasses import dataclass, field
 from typing import Callable, Iterable, Optional
 
 from .exchange import UNKNOWN, End, Exchange, Kind, Sequence, View
-from .frame import ELS, END_SEQUENCE, FCP, FROM_RESPONDER, HAS_OFFSET, LAST_SEQUENCE, NVME, FcFrame
+from .frame import CT_REPLY, DATA, ELS, END_SEQUENCE, EXTENDED, FCP, FROM_RESPONDER, HAS_OFFSET, LAST_SEQUENCE, NVME, RESPONSE, FcFrame
 from .reading import (
-    CT_REPLY,
-    DATA,
-    EXTENDED,
-    RESPONSE,
     concerned,
-    information,
-    is_reply,
-    is_request,
     kind_of,
+    number,
     opened,
     place_text,
     take_basic,
@@ -31,6 +25,7 @@ FLUSHES = SECOND // 100
 AT_ONCE = SECOND  # a host that has no answer waits longer (E_D_TOV is 2 s) before it gives another request the same numbers
 EARLY = SECOND // 20  # that a frame waits for the request that it belongs to, which stands behind it where clocks differ a little
 MOST_OPEN, MOST_LINGERING, MOST_EARLY, MOST_GRANTS = 100_000, 4096, 1024, 20_000
+THIRD_PARTY, ALL_PARTIES = 0x2000, 0x1000  # flags of a TPRLO
 HEAD = 64  # bytes of data that are kept
 TIME_LEFT = {Kind.FCP: 10 * SECOND, Kind.NVME: 10 * SECOND}  # that an answer may take; others 2 s (E_D_TOV)
 
@@ -60,6 +55,14 @@ class Grant:
     place: tuple[int, int]
 
 
+def logged_out_by(it: Exchange) -> set[int]:
+    """Between whom a login or logout ends what is open: its two ends; of a TPRLO the third party and its responder, or all who are with that (FC-LS-2)."""
+    flags = number(it.request[6:8]) if it.command == "TPRLO" and len(it.request) >= 20 else 0
+    if flags & ALL_PARTIES:
+        return {it.responder}
+    return {number(it.request[17:20]), it.responder} if flags & THIRD_PARTY else {it.originator, it.responder}
+
+
 @dataclass
 class Engine:
     """Takes frames in the order of time; `ended` gets each exchange once, when nothing more is to come."""
@@ -86,7 +89,7 @@ class Engine:
         if frame.is_data and self.more_data(frame):
             return
         key, exchange = self.find(frame)
-        if is_request(frame) and (exchange is None or self.is_anew(exchange, frame)):
+        if frame.role.is_request and (exchange is None or self.is_anew(exchange, frame)):
             if exchange is not None:
                 is_at_once = frame.moment - exchange.began < AT_ONCE and frame.payload[:256] != exchange.request
                 self.close(key, End.NOT_CAPTURED if is_at_once else End.UNANSWERED)
@@ -153,8 +156,8 @@ class Engine:
 
     def find(self, frame: FcFrame) -> tuple[Key, Optional[Exchange]]:
         """The exchange of a frame, by what it is; of data and ABTS by F_CTL, or else by which of the two is open."""
-        if is_request(frame) or is_reply(frame):
-            key = self.key_of(frame, is_reply(frame))
+        if frame.role.is_request or frame.role.is_reply:
+            key = self.key_of(frame, frame.role.is_reply)
             return key, self.live.get(key)
         key = self.key_of(frame, frame.is_from_responder)
         if key not in self.live:
@@ -187,9 +190,9 @@ class Engine:
 
     def half(self, key: Key, frame: FcFrame) -> Optional[Exchange]:
         """An exchange that is met in its middle; only what tells how it ends is one."""
-        says_more = is_reply(frame) and information(frame) not in ("XFER_RDY", "ACK_1", "ACK_0") or information(frame) == "ABTS"
+        says_more = frame.role.is_reply and frame.role.word not in ("XFER_RDY", "ACK_1", "ACK_0") or frame.role.word == "ABTS"
         if not says_more:
-            self.strays[information(frame)] += 1
+            self.strays[frame.role.word] += 1
             return None
         made = Exchange(kind_of(frame), UNKNOWN, key[2], key[3], frame.ox_id, frame.vlan, frame.moment, frame.place, frame.enode)
         self.live[key] = made
@@ -202,7 +205,7 @@ class Engine:
         exchange.frames += 1
         exchange.until, exchange.last = max(exchange.until, frame.moment), frame.place
         view = exchange.views.setdefault(frame.port, View())
-        word = information(frame)
+        word = frame.role.word
         view.kinds[word] = view.kinds.get(word, 0) + 1
         view.longest = max(view.longest, frame.length)
         if not frame.is_intact:
@@ -219,6 +222,9 @@ class Engine:
         key = (frame.is_from_responder, frame.seq_id)
         sequence = exchange.sequences.get(key)
         if sequence is None or sequence.r_ctl != frame.r_ctl or sequence.is_ended and not sequence.holes:
+            if frame.ends_sequence:  # it is the whole of it
+                exchange.sequences.pop(key, None)
+                return
             sequence = exchange.sequences[key] = Sequence(frame.r_ctl, frame.seq_cnt)
         sequence.counts.add(frame.seq_cnt, frame.seq_cnt + 1)
         sequence.first, sequence.last = min(sequence.first, frame.seq_cnt), max(sequence.last, frame.seq_cnt)
@@ -239,7 +245,7 @@ class Engine:
                 self.linger(key, exchange)
         elif frame.type in (FCP, NVME):
             self.take_fcp(key, exchange, frame)
-        elif is_reply(frame):
+        elif frame.role.is_reply:
             self.take_reply(key, exchange, frame)
 
     def take_fcp(self, key: Key, exchange: Exchange, frame: FcFrame) -> None:
@@ -310,10 +316,10 @@ class Engine:
 
     def log_out(self, exchange: Exchange) -> None:
         """A login anew or a logout ends what is open between the two."""
-        ends = {exchange.originator, exchange.responder}
         if exchange.kind is Kind.FIP:
             return
-        own = [key for key, it in self.live.items() if it is not exchange and it.end is None and it.kind in (Kind.FCP, Kind.NVME) and {it.originator, it.responder} == ends]
+        whom = logged_out_by(exchange)
+        own = [key for key, it in self.live.items() if it is not exchange and it.end is None and it.kind in (Kind.FCP, Kind.NVME) and whom <= {it.originator, it.responder}]
         for key in own:
             self.live[key].marks.append(f"{exchange.command} in {place_text(exchange.first)}")
             self.close(key, End.LOGGED_OUT)

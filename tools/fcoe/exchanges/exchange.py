@@ -9,8 +9,10 @@ UNKNOWN = "request not captured"
 Place = tuple[int, int]  # of a frame: port, and number as Wireshark shows it
 
 
-class Kind(Enum):
+class Kind(str, Enum):
     """What an exchange carries."""
+
+    __str__ = str.__str__  # as text they are what they say, and are told apart as fast as texts
 
     FIP = "FIP"  # a link service in FIP: FLOGI, FDISC, LOGO
     ELS = "ELS"
@@ -20,8 +22,10 @@ class Kind(Enum):
     OTHER = "other"
 
 
-class End(Enum):
+class End(str, Enum):
     """How an exchange ended."""
+
+    __str__ = str.__str__
 
     DONE = "done"
     REJECTED = "rejected"  # by its responder: LS_RJT, a reject of CT

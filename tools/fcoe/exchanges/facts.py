@@ -193,8 +193,7 @@ class Gathered:
         facts.until = max(facts.until, it.until)
         if it.is_half:
             return
-        made = PairFacts(started=it.began)
-        pair = facts.fip.setdefault((it.first[0], it.vlan, it.enode), made) if it.kind is Kind.FIP else facts.pairs.setdefault(it.pair, made)
+        pair = self.pair_of(it)
         pair.ended = max(pair.ended, it.until)
         step, end = step_of(it), it.end or End.OPEN
         if it.answer is not None:
@@ -215,6 +214,13 @@ class Gathered:
             facts.logouts.append(Logout(it.command, it.began, it.originator, it.responder, it.first))
         if it.kind is Kind.CT:
             self.take_listing(it, end)
+
+    def pair_of(self, it: Exchange) -> PairFacts:
+        """What is known of the two, which of a login in FIP are the ENode and the fabric."""
+        facts = self.facts
+        if it.kind is Kind.FIP:
+            return facts.fip.setdefault((it.first[0], it.vlan, it.enode), PairFacts(started=it.began))
+        return facts.pairs.get(it.pair) or facts.pairs.setdefault(it.pair, PairFacts(started=it.began))
 
     def take_failed(self, pair: PairFacts, step: str, end: End, it: Exchange) -> None:
         key = (step, end, it.says, it.lun)

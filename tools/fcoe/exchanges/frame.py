@@ -3,19 +3,54 @@ import heapq
 import struct
 import zlib
 from dataclasses import dataclass
+from functools import lru_cache
+from operator import attrgetter
 from typing import Iterable, Iterator, Optional
 
 from ..frames.heard import LOGIN, LOGIN_REPLY, Heard
 from ..runs.inputs import Port
+from .codes import LINK_CONTROL
 
 HEADER = struct.Struct(">B3sB3sB3sBBHHHI")  # R_CTL, D_ID, CS_CTL, S_ID, TYPE, F_CTL, SEQ_ID, DF_CTL, SEQ_CNT, OX_ID, RX_ID, parameter
 REST = struct.Struct(">3sBBHHHI")  # of the header behind TYPE
 HEAD, TAIL = 14, 8  # bytes of FCoE before the FC header, and behind the payload (check sequence, EOF and reserved bytes)
 BLS, ELS, FCP, CT, NVME = 0x00, 0x01, 0x08, 0x20, 0x28  # TYPE
-DATA = 0x01  # the R_CTL of data of FCP and NVMe
+COMMAND, READY, DATA, RESPONSE, EXTENDED = 0x06, 0x05, 0x01, 0x07, 0x08  # R_CTL of FCP and NVMe
+ELS_REQUEST, ELS_REPLY, CT_REQUEST, CT_REPLY = 0x22, 0x23, 0x02, 0x03
+ABTS, BA_ACC, BA_RJT = 0x81, 0x84, 0x85
+REQUESTS = {(ELS, ELS_REQUEST), (CT, CT_REQUEST), (FCP, COMMAND), (NVME, COMMAND)}
+REPLIES = {(ELS, ELS_REPLY), (CT, CT_REPLY), *((kind, r_ctl) for kind in (FCP, NVME) for r_ctl in (READY, RESPONSE, EXTENDED))}
+BASIC = {ABTS: "ABTS", BA_ACC: "BA_ACC", BA_RJT: "BA_RJT"}
+OF_FCP = {COMMAND: "command", READY: "XFER_RDY", DATA: "data", RESPONSE: "response", EXTENDED: "response"}
 KEPT = 2112  # bytes of a payload that are looked into; of data fewer
 KEPT_OF_DATA = 64
 FROM_RESPONDER, LAST_SEQUENCE, END_SEQUENCE, HAS_OFFSET, FILL = 0x800000, 0x100000, 0x080000, 0x000008, 0x000003  # in F_CTL
+
+
+@dataclass(slots=True, frozen=True)
+class Role:
+    """What a frame is for its exchange, by TYPE and R_CTL."""
+
+    word: str
+    is_request: bool  # the first frame of an exchange
+    is_reply: bool  # what only the responder sends, or the fabric in its place
+
+
+@lru_cache(maxsize=None)
+def role_of(kind: int, r_ctl: int) -> Role:
+    if r_ctl in LINK_CONTROL:
+        return Role(LINK_CONTROL[r_ctl], (kind, r_ctl) in REQUESTS, True)
+    is_request = (kind, r_ctl) in REQUESTS
+    if kind == BLS:
+        word = BASIC.get(r_ctl, "BLS")
+    elif kind in (FCP, NVME):
+        word = OF_FCP.get(r_ctl & 0x0F, "other")
+    else:
+        word = "request" if is_request else "reply"
+    return Role(word, is_request, (kind, r_ctl) in REPLIES)
+
+
+OTHER = role_of(0xFF, 0x00)
 
 
 @dataclass(slots=True)
@@ -44,6 +79,7 @@ class FcFrame:
     is_cut: bool = False  # by the snap length
     enode: bytes = b""
     is_data: bool = False  # of FCP or NVMe
+    role: Role = OTHER
     switch: bytes = b""  # the MAC of the switch that sent a frame in FIP
 
     @property
@@ -70,6 +106,7 @@ def frame_of(header: bytes, port: int, number: int, moment: int, heard: Heard, i
     d_id, s_id, f_ctl = (int.from_bytes(values[at], "big") for at in (1, 3, 5))
     seq_cnt, ox_id, rx_id, parameter = values[8:]
     found = FcFrame(port, number, moment, heard.vlan, is_from_switch, 0, values[0], d_id, s_id, values[4], f_ctl)
+    found.role = role_of(found.type, found.r_ctl)
     found.seq_id, found.seq_cnt, found.ox_id, found.rx_id, found.parameter = values[6], seq_cnt, ox_id, rx_id, parameter
     return found
 
@@ -86,6 +123,7 @@ class FlowHead:
     s_id: int = 0
     type: int = 0
     is_data: bool = False
+    role: Role = OTHER
 
     @classmethod
     def of(cls, heard: Heard, is_from_switch: bool) -> "FlowHead":
@@ -94,6 +132,7 @@ class FlowHead:
         if heard.is_fcoe and len(head) == 9:
             made.begin, made.r_ctl, made.type = begin, head[0], head[8]
             made.d_id, made.s_id = int.from_bytes(head[1:4], "big"), int.from_bytes(head[5:8], "big")
+            made.role = role_of(made.type, made.r_ctl)
             made.is_data = made.type in (FCP, NVME) and made.r_ctl & 0x0F == DATA
         return made
 
@@ -113,7 +152,7 @@ def in_fcoe(port: Port, at: int, head: FlowHead) -> Optional[FcFrame]:
     payload = b"" if head.is_data and parameter else data[begin + 24 : end]
     is_intact = is_cut or zlib.crc32(memoryview(data)[begin:-TAIL]) == int.from_bytes(data[-TAIL:-4], "little")
     ends = (head.r_ctl, head.d_id, head.s_id, head.type, control, seq_id, seq_cnt, ox_id, rx_id, parameter, size, payload)
-    return FcFrame(port.number, frames.number(at), frames.moments[at], head.like.vlan, head.is_from_switch, whole, *ends, is_intact, is_cut, b"", head.is_data)
+    return FcFrame(port.number, frames.number(at), frames.moments[at], head.like.vlan, head.is_from_switch, whole, *ends, is_intact, is_cut, b"", head.is_data, head.role)
 
 
 def in_fip(port: Port, at: int, is_from_switch: bool) -> Optional[FcFrame]:
@@ -141,4 +180,5 @@ def frames_of(port: Port, switches: set[bytes]) -> Iterator[FcFrame]:
 
 def frames_in(ports: Iterable[Port], switches: set[bytes]) -> Iterable[FcFrame]:
     """The FC frames of all ports in the order of time, each port's in its own."""
-    return heapq.merge(*(frames_of(port, switches) for port in ports), key=lambda it: it.moment)
+    every = [frames_of(port, switches) for port in ports]
+    return every[0] if len(every) == 1 else heapq.merge(*every, key=attrgetter("moment"))

@@ -6,50 +6,20 @@ from ..frames.heard import CT as CT_COMMANDS
 from . import scsi
 from .codes import BASIC_EXPLANATIONS, BASIC_REASONS, ELS, FCP_CODES, LINK_CONTROL, LINK_REJECTS, PRLI_ANSWERS, TASK_FLAGS
 from .exchange import End, Exchange, Kind
-from .frame import CT, ELS as ELS_TYPE, FCP, NVME, FcFrame
+from .frame import ABTS, BA_ACC, BA_RJT, CT, ELS as ELS_TYPE, ELS_REQUEST, FCP, NVME, FcFrame
 
-COMMAND, READY, DATA, RESPONSE, EXTENDED = 0x06, 0x05, 0x01, 0x07, 0x08  # R_CTL of FCP and NVMe
-ELS_REQUEST, ELS_REPLY, CT_REQUEST, CT_REPLY = 0x22, 0x23, 0x02, 0x03
-ABTS, BA_ACC, BA_RJT = 0x81, 0x84, 0x85
-NOT_THERE = 0x7F  # the first byte of INQUIRY data where no unit answers at this LUN
+KINDS = {ELS_TYPE: Kind.ELS, CT: Kind.CT, FCP: Kind.FCP, NVME: Kind.NVME}
 
 
 def number(data: bytes) -> int:
     return int.from_bytes(data, "big")
 
 
-def is_request(frame: FcFrame) -> bool:
-    """The first frame of an exchange."""
-    return (frame.type, frame.r_ctl) in ((ELS_TYPE, ELS_REQUEST), (CT, CT_REQUEST), (FCP, COMMAND), (NVME, COMMAND))
-
-
-def is_reply(frame: FcFrame) -> bool:
-    """What only the responder sends, or the fabric in its place."""
-    if frame.r_ctl in LINK_CONTROL:
-        return True
-    if frame.type in (FCP, NVME):
-        return frame.r_ctl in (READY, RESPONSE, EXTENDED)
-    return (frame.type, frame.r_ctl) in ((ELS_TYPE, ELS_REPLY), (CT, CT_REPLY))
-
-
-def information(frame: FcFrame) -> str:
-    """What a frame is, in one word."""
-    if frame.r_ctl in LINK_CONTROL:
-        return LINK_CONTROL[frame.r_ctl]
-    if frame.type == 0x00:
-        return {ABTS: "ABTS", BA_ACC: "BA_ACC", BA_RJT: "BA_RJT"}.get(frame.r_ctl, "BLS")
-    if frame.type in (FCP, NVME):
-        return {COMMAND: "command", READY: "XFER_RDY", DATA: "data", RESPONSE: "response", EXTENDED: "response"}.get(frame.r_ctl & 0x0F, "other")
-    return "request" if is_request(frame) else "reply"
-
-
 # ---- requests
 
 
 def kind_of(frame: FcFrame) -> Kind:
-    if frame.enode:
-        return Kind.FIP
-    return {ELS_TYPE: Kind.ELS, CT: Kind.CT, FCP: Kind.FCP, NVME: Kind.NVME}.get(frame.type, Kind.OTHER)
+    return Kind.FIP if frame.enode else KINDS.get(frame.type, Kind.OTHER)
 
 
 def els_name(payload: bytes) -> str:
@@ -64,8 +34,8 @@ def ct_name(payload: bytes) -> str:
 def opened(frame: FcFrame) -> Exchange:
     """The exchange that a request begins."""
     kind = kind_of(frame)
-    name = {Kind.CT: ct_name, Kind.ELS: els_name, Kind.FIP: els_name}.get(kind)
-    made = Exchange(kind, name(frame.payload) if name else kind.value, frame.s_id, frame.d_id, frame.ox_id, frame.vlan, frame.moment, frame.place, frame.enode, frame.is_from_switch)
+    name = ct_name(frame.payload) if kind is Kind.CT else els_name(frame.payload) if kind in (Kind.ELS, Kind.FIP) else kind.value
+    made = Exchange(kind, name, frame.s_id, frame.d_id, frame.ox_id, frame.vlan, frame.moment, frame.place, frame.enode, frame.is_from_switch)
     made.request = frame.payload[:256]
     if kind is Kind.FCP:
         take_command(made, frame.payload)

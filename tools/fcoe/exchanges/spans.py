@@ -37,6 +37,8 @@ class Spans:
 
     def lacking(self, begin: int, end: int) -> list[tuple[int, int]]:
         """The parts of a range that weren't seen."""
+        if len(self.ends) == 1 and self.begins[0] <= begin and end <= self.ends[0]:
+            return []
         found = []
         for first, last in zip(self.begins, self.ends):
             if first >= end:

@@ -7,7 +7,7 @@ from .exchange import End, Exchange, Kind
 from .times import Times
 
 MOST = 4096  # groups; further ones are one
-Group = tuple[str, str, str, int]  # kind, command, LUN, responder
+Group = tuple[Kind, str, str, int]  # kind, command, LUN, responder
 
 
 @dataclass
@@ -30,14 +30,10 @@ class Statistics:
     crowded: int = 0  # exchanges that are in no group of their own
 
     def add(self, it: Exchange) -> None:
-        group = (it.kind.value, it.command, it.lun, it.responder)
-        if group not in self.sums and len(self.sums) >= MOST:
-            self.crowded += 1
-            group = (it.kind.value, "others", "", 0)
-        found = self.sums.setdefault(group, Sum())
+        found = self.sums.get((it.kind, it.command, it.lun, it.responder)) or self.added(it)
         found.count += 1
         end = it.end or End.OPEN
-        found.ends[end.value] += 1
+        found.ends[end] += 1
         if end in (End.REJECTED, End.RETURNED, End.FAILED, End.ABORT_REJECTED) and (it.says in found.says or len(found.says) < 16):
             found.says[it.says] += 1
         if it.took is not None and end in (End.DONE, End.FAILED, End.REJECTED, End.RETURNED):
@@ -45,7 +41,15 @@ class Statistics:
         found.moved += it.came
         found.lacking += it.lacks
 
+    def added(self, it: Exchange) -> Sum:
+        """The sum of a group that wasn't met yet."""
+        group = (it.kind, it.command, it.lun, it.responder)
+        if len(self.sums) >= MOST:
+            self.crowded += 1
+            group = (it.kind, "others", "", 0)
+        return self.sums.setdefault(group, Sum())
+
     def ranked(self) -> Iterable[tuple[Group, Sum]]:
         """By kind, responder, LUN, and then by count."""
-        order = {kind.value: at for at, kind in enumerate(Kind)}
+        order = {kind: at for at, kind in enumerate(Kind)}
         return sorted(self.sums.items(), key=lambda it: (order[it[0][0]], it[0][3], it[0][2], -it[1].count, it[0][1]))

@@ -78,13 +78,19 @@ def classic(name: str, shown: Optional[str] = None, is_plain: bool = False) -> C
     return capture
 
 
+def write_rows(name: str, rows: Iterable[tuple[int, int, bytes]]) -> None:
+    """A classic capture with nanoseconds, of moments, lengths and bytes."""
+    pack = struct.Struct("<IIII").pack
+    with open(name, "wb", buffering=PIECE) as file:
+        file.write(HEAD)
+        for moment, length, data in rows:
+            seconds, fraction = divmod(moment, 1_000_000_000)
+            file.write(pack(seconds, fraction, len(data), length) + data)
+
+
 def write_classic(name: str, records: Iterable[Record]) -> None:
     """A classic capture with nanoseconds; lengths are kept."""
-    with open(name, "wb") as file:
-        file.write(HEAD)
-        for it in records:
-            moment = min(it.moment, LAST - 1)
-            file.write(struct.pack("<IIII", moment // 10**9, moment % 10**9, len(it.data), it.length) + it.data)
+    write_rows(name, ((min(it.moment, LAST - 1), it.length, it.data) for it in records))
 
 
 def write_frames(name: str, frames: Frames, chosen: Sequence[int]) -> None:

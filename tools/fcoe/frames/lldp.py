@@ -1,4 +1,4 @@
-"""What LLDP says of FCoE: DCBX of IEEE 802.1Qaz and of its forerunner (CEE), by the TLVs for applications and for PFC."""
+"""What LLDP says of FCoE: DCBX of IEEE 802.1Qaz and of its forerunner (CEE), by the TLVs for applications, PFC and ETS."""
 from dataclasses import dataclass, field
 from typing import Iterator, Optional
 
@@ -17,6 +17,8 @@ class Told:
     has_dcbx: bool = False
     applications: dict[int, int] = field(default_factory=dict)  # protocol (Ethertype or port), and its priority
     pfc: Optional[int] = None  # a bit a priority
+    classes: bytes = b""  # the class of each priority (ETS)
+    shares: bytes = b""  # and the hundredths of the link that each class has
 
     @property
     def names_fcoe(self) -> bool:
@@ -29,7 +31,16 @@ class Told:
         named = ", ".join(own) or "no application"
         lossless = ", ".join(str(bit) for bit in range(8) if (self.pfc or 0) >> bit & 1)
         paused = "" if self.pfc is None else f"; PFC on priority {lossless}" if lossless else "; PFC on no priority"
-        return named + ("" if self.names_fcoe else ", no FCoE") + paused
+        return named + ("" if self.names_fcoe else ", no FCoE") + paused + self.ets_text
+
+    @property
+    def ets_text(self) -> str:
+        """Which priorities have which share of the link, where a class is told."""
+        by_class: dict[int, list[str]] = {}
+        for priority, number_ in enumerate(self.classes):
+            by_class.setdefault(number_, []).append(str(priority))
+        given = [f"{self.shares[it]} % to priority {', '.join(some)}" for it, some in sorted(by_class.items(), reverse=True) if it < len(self.shares)]
+        return f"; ETS gives {' and '.join(given)}" if given else ""
 
 
 def tlvs(data: bytes, begin: int) -> Iterator[tuple[int, bytes]]:
@@ -42,8 +53,16 @@ def tlvs(data: bytes, begin: int) -> Iterator[tuple[int, bytes]]:
         at += 2 + (head & 0x1FF)
 
 
+def take_ets(told: Told, body: bytes) -> None:
+    """The classes of eight priorities, four bits each, and the shares of eight classes."""
+    if len(body) >= 12:
+        told.classes, told.shares = bytes(half for it in body[:4] for half in (it >> 4, it & 0x0F)), body[4:12]
+
+
 def take_ieee(told: Told, subtype: int, body: bytes) -> None:
-    if subtype == 0x0C:
+    if subtype == 0x09:
+        take_ets(told, body[1:])
+    elif subtype == 0x0C:
         for at in range(1, len(body) - 2, 3):
             told.applications[number(body[at + 1 : at + 3])] = body[at] >> 5
     elif subtype == 0x0B and len(body) >= 2:
@@ -51,8 +70,10 @@ def take_ieee(told: Told, subtype: int, body: bytes) -> None:
 
 
 def take_cee(told: Told, body: bytes) -> None:
-    """The features inside the TLV of CEE: 3 is PFC, 4 the applications, each with a map of priorities."""
+    """The features inside the TLV of CEE: 2 is ETS, 3 PFC, 4 the applications, each with a map of priorities."""
     for kind, part in tlvs(body, 0):
+        if kind == 2:
+            take_ets(told, part[4:])
         if kind == 3 and len(part) >= 6:
             told.pfc = part[4]
         for at in range(4, len(part) - 5, 6) if kind == 4 else ():

@@ -1,5 +1,6 @@
 """The order of the frames of both directions of a link: what two clocks, or times that are told roughly, did to it is undone."""
 from array import array
+from bisect import bisect
 from dataclasses import dataclass
 from itertools import accumulate
 from typing import Hashable, Iterator, Optional
@@ -14,7 +15,9 @@ LOOKED_AT = 20_000  # frames of which data are compared with what asked for them
 QUESTIONS = (0x22, 0x23, 0x02, 0x03)  # R_CTL of link services and CT, and of their replies
 DATA, READY, COMMAND, RESPONSE = 0x01, 0x05, 0x06, 0x07  # R_CTL of FCP
 LOGIN_SIZE = 116  # bytes of a PLOGI's accept
+SERVICES = 0xFFFFF0  # addresses from which on they are well-known
 STEP = 1000  # nanoseconds that a reply is behind its request, once the lag is taken out
+NEAR = 20 * MILLISECOND  # and by which it stands before it at most, where few do
 WITHIN = 2000 * MILLISECOND  # in which a reply counts as that of a request
 
 
@@ -25,6 +28,8 @@ class Pair:
     cause: int
     effect: int
     by_switch: bool  # the cause is the switch's
+    is_reply: bool = False  # nobody answers what he wasn't asked
+    is_grant: bool = False  # nobody knows an address before it's granted
 
 
 def question_key(heard: Heard) -> Optional[tuple[Hashable, bool]]:
@@ -52,15 +57,14 @@ def questions(frames: Frames, switches: set[bytes]) -> Iterator[Pair]:
     for key, places in asked.items():
         others = replied.get(key, [])
         if len(others) == len(places):
-            yield from (Pair(one, two, frames.heard(one).source in switches) for one, two in zip(places, others))
+            yield from (Pair(one, two, frames.heard(one).source in switches, True) for one, two in zip(places, others))
 
 
 def transfers(frames: Frames, switches: set[bytes], most: int) -> Iterator[Pair]:
     """FCP: responses to commands, and data that a target asked for; of the first frames alone, where they tell as much."""
-    found: dict[Hashable, tuple[list[int], list[int]]] = {}
+    found: dict[tuple[int, int, int, bool], tuple[list[int], list[int]]] = {}
     for at, flow in enumerate(frames.flow_of[:most]):
-        like = frames.flows[flow].heard
-        fc = like.fc if like.is_fcoe else None
+        fc = frames.flows[flow].heard.fc if frames.flows[flow].heard.is_fcoe else None
         if fc is None or fc.kind != 0x08 or fc.r_ctl & 0x0F not in (DATA, READY, COMMAND, RESPONSE):
             continue
         head = Fc(frames.bytes_at(at, 0, fc.payload_at), fc.at, fc.payload_at)
@@ -70,9 +74,9 @@ def transfers(frames: Frames, switches: set[bytes], most: int) -> Iterator[Pair]
         ends = (head.d_id, head.s_id) if is_back else (head.s_id, head.d_id)
         pair = found.setdefault((*ends, head.ox_id, kind in (COMMAND, RESPONSE)), ([], []))
         pair[kind in (RESPONSE, DATA)].append(at)
-    for causes, effects in found.values():
+    for (*_, is_reply), (causes, effects) in found.items():
         if len(causes) == len(effects):
-            yield from (Pair(one, two, frames.flows[frames.flow_of[one]].heard.source in switches) for one, two in zip(causes, effects))
+            yield from (Pair(one, two, frames.flows[frames.flow_of[one]].heard.source in switches, bool(is_reply)) for one, two in zip(causes, effects))
 
 
 def firsts(frames: Frames) -> Iterator[Pair]:
@@ -91,14 +95,47 @@ def firsts(frames: Frames) -> Iterator[Pair]:
             granted.setdefault((fc.d_id, fc.s_id), at)
         elif fc.r_ctl in (0x22, 0x02) and heard.kind != "PLOGI":
             used.setdefault((fc.s_id, fc.d_id), at)
-    yield from (Pair(at, used[key], True) for key, at in granted.items() if key in used)
+    yield from (Pair(at, used[key], True, is_grant=isinstance(key, int)) for key, at in granted.items() if key in used)
+
+
+def wanted_by(heard: Heard) -> Optional[Hashable]:
+    """What a frame can't go out without: the grant of its address, or the login that CT and PRLI want."""
+    fc = heard.fc
+    if fc is None or not heard.is_fcoe:
+        return None
+    is_query = fc.r_ctl == 0x02 and fc.d_id >= SERVICES
+    return (fc.s_id, fc.d_id) if is_query or heard.kind == "PRLI" and fc.r_ctl == 0x22 else fc.s_id if heard.kind == "PLOGI" else None
+
+
+def given_by(heard: Heard) -> Optional[Hashable]:
+    """What an accept grants."""
+    fc = heard.fc
+    if fc is None or granted_in(heard) is not None:
+        return fc.d_id if fc else None
+    return (fc.d_id, fc.s_id) if heard.kind == "LS_ACC" and len(fc.payload) >= LOGIN_SIZE else None
+
+
+def entries(frames: Frames, asked: list[Pair]) -> Iterator[Pair]:
+    """The same behind each login: what a host sends next behind its request, in the order of its own frames, comes behind the accept."""
+    used: dict[Hashable, list[tuple[int, int]]] = {}
+    for at in frames.messages():
+        wants = wanted_by(frames.heard(at))
+        if wants is not None:
+            used.setdefault(wants, []).append((frames.moments[at], at))
+    for it in asked:
+        gives = given_by(frames.heard(it.effect))
+        some = used.get(gives, []) if gives is not None else []
+        place = bisect(some, (frames.moments[it.cause], it.cause))
+        if place < len(some):
+            yield Pair(it.effect, some[place][1], not it.by_switch, is_grant=isinstance(gives, int))
 
 
 def across(frames: Frames, switches: set[bytes], most: int = LOOKED_AT) -> list[Pair]:
     """The pairs of both directions, no further apart than a reply is."""
     own = [it.heard.source in switches for it in frames.flows]
     moments, flows = frames.moments, frames.flow_of
-    every = [*questions(frames, switches), *transfers(frames, switches, most), *firsts(frames)]
+    asked = list(questions(frames, switches))
+    every = [*asked, *transfers(frames, switches, most), *dict.fromkeys((*firsts(frames), *entries(frames, asked)))]
     return [it for it in every if own[flows[it.cause]] != own[flows[it.effect]] and abs(moments[it.effect] - moments[it.cause]) < WITHIN]
 
 
@@ -159,17 +196,27 @@ class Ordered:
 
 
 def in_order(frames: Frames, switches: set[bytes]) -> Ordered:
-    """The frames with each answer behind its request. A few that stand before it are no matter of clocks."""
+    """The frames with each answer behind its request. A few effects that stand before their causes are no matter of clocks, but where nobody can do so."""
     pairs = across(frames, switches) if switches else []
-    back = sum(frames.moments[it.effect] < frames.moments[it.cause] for it in pairs)
-    if not back or back < FEW and back < MANY_BACK * len(pairs):
+    back = [it for it in pairs if frames.moments[it.effect] < frames.moments[it.cause]]
+    are_few = len(back) < FEW and len(back) < MANY_BACK * len(pairs)
+    if not back or are_few and not any(it.is_reply or it.is_grant for it in back):
         return Ordered(frames)
-    said = f"answers stand before their requests ({back} of {len(pairs)})"
+    said = f"answers stand before their requests ({len(back)} of {len(pairs)})"
     lag = lag_of(frames, pairs)
     if lag:
         whose = "the switch's" if lag > 0 else "the hosts'"
         return Ordered(shifted(frames, switches, lag), f"{said}: {whose} frames are {abs(lag) / MILLISECOND:.3f} ms too early, which is taken out")
-    if not any(is_often_back(frames, [it for it in pairs if it.by_switch == side]) for side in (False, True)):
+    return by_force(frames, switches, pairs, said)
+
+
+def by_force(frames: Frames, switches: set[bytes], pairs: list[Pair], said: str) -> Ordered:
+    """The order where no lag explains all: by replies where some stand before their requests, or by all causes where effects often do; else as it is."""
+    replies = sum(it.is_reply and -NEAR < frames.moments[it.effect] - frames.moments[it.cause] < 0 for it in pairs)
+    is_often = any(is_often_back(frames, [it for it in pairs if it.by_switch == side]) for side in (False, True))
+    if not replies and not is_often:
         return Ordered(frames)
-    made, is_sound = by_causes(frames, switches, across(frames, switches, len(frames)))
-    return Ordered(made, f"{said}, by no one lag: each is put behind its request{'' if is_sound else ', as far as that can be done'}", True)
+    every, is_guess = across(frames, switches, len(frames)), is_often or replies >= FEW
+    some = every if is_guess else [it for it in every if it.is_reply and frames.moments[it.effect] > frames.moments[it.cause] - NEAR]
+    made, is_sound = by_causes(frames, switches, some)
+    return Ordered(made, f"{said}, by no one lag: each is put behind its request{'' if is_sound else ', as far as that can be done'}", is_guess or not is_sound)

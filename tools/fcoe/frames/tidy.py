@@ -2,16 +2,17 @@
 
 Ethernet check sequences that the tap kept, copies of a mirror of both sides, and the lag between two directions that were captured with two clocks are taken
 out. Frames that are cut, and frames that are missing, can only be said: what hangs on them can't be told."""
+import struct
 import zlib
 from array import array
 from bisect import bisect_left
 from collections import Counter
 from dataclasses import dataclass, field
-from typing import Callable, Hashable, Iterable, Sequence
+from typing import Callable, Iterable, Optional, Sequence
 
 from ..errors import counted
 from .columns import MILLISECOND, Flow, Frames
-from .heard import ADVERTISE, ALL_ENODES, Fc, Heard, hear, number
+from .heard import ADVERTISE, ALL_ENODES, Heard, hear, number
 from .order import RESPONDER, Ordered, in_order
 
 SEQUENCE = 4  # bytes of an Ethernet check sequence
@@ -21,6 +22,7 @@ GENERATION = 4096  # frames behind which copies are no longer looked for
 END_SEQUENCE, OFFSET_HELD = 0x080000, 0x000008  # F_CTL
 LATE, REGULAR = 1.6, 4  # periods without an advertisement, and how many come on time around it, for one to be missing
 DATA = 0x01  # R_CTL of FCP data
+SEQUENCED = struct.Struct(">IBxHH2xI")  # of an FC header from TYPE on: TYPE and F_CTL, SEQ_ID, SEQ_CNT, OX_ID, parameter
 
 
 @dataclass(frozen=True)
@@ -30,7 +32,6 @@ class Hole:
     at: int
     is_switch: bool
     what: str
-    key: Hashable = None  # of the sequence where it's seen
 
 
 @dataclass
@@ -126,29 +127,44 @@ def is_likely_mirrored(frames: Frames) -> bool:
 # ---- what is missing
 
 
-def sequence_key(fc: Fc) -> Hashable:
-    return fc.s_id, fc.d_id, fc.ox_id, fc.data[fc.at + 12], bool(fc.f_ctl & RESPONDER)
+@dataclass
+class DataFlow:
+    """Data frames of FCP that are alike up to TYPE: where their FC header begins, and whose they are."""
+
+    at: int
+    ends: tuple[int, int]
+    is_switch: bool
+
+    @classmethod
+    def of(cls, heard: Heard, switches: set[bytes]) -> "Optional[DataFlow]":
+        fc = heard.fc if heard.is_fcoe else None
+        return cls(fc.at, (fc.s_id, fc.d_id), heard.source in switches) if fc is not None and fc.kind == 0x08 and fc.r_ctl & 0x0F == DATA else None
 
 
 def sequence_holes(frames: Frames, switches: set[bytes], found: Tidy) -> None:
     """SEQ_CNT that jumps within a sequence, where the relative offset jumps with it."""
-    running: dict[Hashable, tuple[int, int]] = {}
-    for at, flow in enumerate(frames.flow_of):
-        like = frames.flows[flow].heard
-        if not like.is_fcoe or like.fc is None or like.fc.kind != 0x08 or like.fc.r_ctl & 0x0F != DATA:
+    running: dict[tuple[int, int, int, int, int], tuple[int, int]] = {}
+    flows = [DataFlow.of(it.heard, switches) for it in frames.flows]
+    for at, number_ in enumerate(frames.flow_of):
+        flow = flows[number_]
+        if flow is None:
             continue
-        fc = Fc(frames.bytes_at(at, 0, like.fc.payload_at), like.fc.at, like.fc.payload_at)
-        key, size = sequence_key(fc), frames.lengths[at] - like.fc.payload_at - 8 - (fc.f_ctl & 3)
-        offset = number(fc.data[fc.at + 20 : fc.at + 24]) if fc.f_ctl & OFFSET_HELD else -1
-        if key in running:
-            count, expected = running[key]
-            if fc.seq_cnt > count and (expected < 0 or offset != expected):
-                found.holes.append(Hole(at, like.source in switches, f"SEQ_CNT goes from {count - 1} to {fc.seq_cnt} in frame {frames.number(at)}", key[:3] if isinstance(key, tuple) else key))
+        control, seq_id, seq_cnt, ox_id, parameter = SEQUENCED.unpack(frames.bytes_at(at, flow.at + 8, SEQUENCED.size))
+        key = (*flow.ends, ox_id, seq_id, control & RESPONDER)
+        offset = parameter if control & OFFSET_HELD else -1
+        before = running.get(key)
+        if before is not None and 0 < seq_cnt < before[0]:
+            continue  # it stands twice
+        if before is not None:
+            count, expected = before
+            if seq_cnt > count and (expected < 0 or offset != expected):
+                found.holes.append(Hole(at, flow.is_switch, f"SEQ_CNT goes from {count - 1} to {seq_cnt} in frame {frames.number(at)}"))
             else:
                 found.accounted += 1
-        running[key] = fc.seq_cnt + 1, offset + size if offset >= 0 else -1
-        if fc.f_ctl & END_SEQUENCE:
-            running.pop(key)
+        if control & END_SEQUENCE:
+            running.pop(key, None)
+        else:
+            running[key] = seq_cnt + 1, offset + frames.lengths[at] - flow.at - 32 - (control & 3) if offset >= 0 else -1
 
 
 def advertisement_holes(frames: Frames, switches: set[bytes], found: Tidy) -> None:

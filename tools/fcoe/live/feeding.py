@@ -41,7 +41,8 @@ REFUSALS = {
 LIMITS = {"frames": MOST_FRAMES, "bytes of the stream": MOST_BYTES, "milliseconds": MOST_SPAN}
 TOLD_AT = 0.8
 ROOM = 2 * MOST_BYTES + 48 * MOST_FRAMES  # bytes of disk: each frame in IN and in OUT, their heads, and lines of the journal
-ENDING = ("SIGINT", "SIGTERM", "SIGHUP", "SIGQUIT", "SIGUSR1", "SIGUSR2", "SIGALRM", "SIGVTALRM", "SIGPROF", "SIGIO", "SIGPWR", "SIGXCPU", "SIGSTKFLT")
+# signals that end no session: those that can't be caught, that stop and go on, that nobody minds, and faults of the process itself, which would come again
+OTHERS = {f"SIG{it}" for it in "KILL STOP TSTP TTIN TTOU CONT CHLD URG WINCH PIPE XFSZ SEGV BUS FPE ILL".split()}
 PATIENCE = 30.0  # seconds that the program has to end behind the end of its stream
 
 
@@ -229,6 +230,14 @@ def refused_text(refused: "Counter[str]") -> str:
     return f"{count} ({', '.join(f'{number} {word}' for word, number in refused.most_common())})" if count else "0"
 
 
+def signal_name(number: int) -> str:
+    """A signal's name; of those between SIGRTMIN and SIGRTMAX the system has none."""
+    try:
+        return signal.Signals(number).name
+    except ValueError:
+        return f"SIGRTMIN+{number - signal.SIGRTMIN}"
+
+
 def check_room(folder: Folder, keeps_stream: bool) -> None:
     """Says where the disk has less than a session can take."""
     free, wanted = shutil.disk_usage(folder.path).free, ROOM + keeps_stream * MOST_BYTES
@@ -257,6 +266,10 @@ class Session:
         self.selector = selectors.DefaultSelector()
         self.marks, self.asked_to_end, self.is_heard, self.fault, self.by = 0, 0, False, "", ""
         self.taken, self.nearly = 0, set[str]()
+        self.ports: list[Port] = []
+        for number in signal.valid_signals():
+            if signal_name(number) not in OTHERS:
+                signal.signal(number, self.asked)
         names = list(wires)
         self.running = Running(folder, names)
         stream, into = os.pipe()
@@ -383,8 +396,6 @@ class Session:
         wake, waker = socket.socketpair()
         waker.setblocking(False)
         signal.set_wakeup_fd(waker.fileno())
-        for name in ENDING:
-            signal.signal(getattr(signal, name), self.asked)
         self.selector.register(wake, selectors.EVENT_READ, lambda: wake.recv(64))
         for port in self.ports:
             self.selector.register(port.descriptor, selectors.EVENT_READ, lambda port=port: self.pass_on(port))
@@ -403,8 +414,8 @@ class Session:
         return self.ended()
 
     def asked(self, number: int, _frame: Optional[FrameType]) -> None:
-        self.stop(signal.Signals(number).name)
-        if self.asked_to_end > 1:
+        self.stop(signal_name(number))
+        if self.asked_to_end > 1 and self.ports:  # the program runs
             self.process.terminate()
 
     def ended(self) -> Ended:

@@ -20,6 +20,7 @@ from ..runs.compare import STATES, by_kind, states_in, totals
 from ..runs.journals import counted as rule_of
 from ..runs.looking import Look
 from .check import check_rows
+from .exchanges import exchange_rows
 from .frames import frames_of_page, rules_of
 from .ladder import LEGEND
 from .zoning import reach_rows, whatif_rows
@@ -148,6 +149,7 @@ def values_of(look: Look) -> Row:
         "reach": reach_rows(look),
         "whatif": whatif_rows(look),
         "checks": check_rows(look, found["from"]),
+        "exchanges": exchange_rows(look, found["from"]),
     }
 
 

@@ -1,4 +1,5 @@
 """What the switch of the captures answered, beside what the forwarder answered to the same frames."""
+import math
 import re
 from bisect import bisect_right
 from collections import Counter
@@ -15,7 +16,7 @@ from .inputs import Port
 from .journals import Frame, counted
 from .pairs import SERVICES, asks, replies_of
 from .program import Run
-from .windows import ends_of, is_otherwise, otherwise
+from .windows import at_its_end, ends_of, is_otherwise, otherwise
 
 Pair = tuple[int, int]  # addresses of two N_Ports
 PROFILE = "this project's profile (docs/inside/DECISIONS.md)"
@@ -221,6 +222,9 @@ def cause_of(run: Run, walk: Walk, place: int) -> tuple[str, bool]:
         return f"{fcid(ends[lost])} wasn't seen to log in: before the capture began, or on a port that wasn't captured", True
     if is_otherwise(run, walk, entry, place):
         return f"by the window: {otherwise(run.config.window)} decides otherwise", True
+    ended = at_its_end(walk, entry, heard, place)
+    if ended:
+        return ended, True
     return profile_note(entry, heard), False
 
 
@@ -253,10 +257,41 @@ def note_strangers(walk: Walk, answer: Compared) -> None:
             it.note, it.is_open = f"{more[0]} wasn't captured{'' if len(more) == 1 else f', nor {len(more) - 1} more'}", True
 
 
+@dataclass
+class Registration:
+    """A registration of FC-4 types, from its request to the switch's answer."""
+
+    address: int
+    asked: int
+    answered: float
+
+
+def registrations(run: Run, pairs: dict[int, dict[int, int]]) -> list[Registration]:
+    """What N_Ports registered, as the captures have it."""
+    found = []
+    for port in run.ports:
+        moments = port.frames.moments
+        for at in port.host_messages:
+            heard, reply = port.frames.heard(at), pairs[port.number].get(at)
+            if heard.kind == "RFT_ID" and heard.fc is not None:
+                found.append(Registration(heard.fc.s_id, moments[at], moments[reply] if reply is not None else math.inf))
+    return found
+
+
+def note_pending(known: list[Registration], answer: Compared, asked: int, answered: int) -> None:
+    """N_Ports that the switch doesn't list yet, as it takes their registrations in these very moments: both lists are right."""
+    pending = {fcid(own.address) for own in known if own.asked < answered and own.answered > asked}
+    for it in answer.differences:
+        here, there = (set(some.split(", ")) - {"", "none"} for some in (it.forwarder, it.switch))
+        late = {one for one in here - there if one[:6] in pending}
+        if it.field == "N_Ports" and there < here and late == here - there:
+            it.note, it.is_open = f"the switch answered the registration of {min(late)} while it answered this", True
+
+
 def compare_answers(run: Run, walk: Walk, found: Comparison) -> Marked:
     """Each request to the switch; gives the places of the switch's frames that are replies."""
     pairs = {port.number: replies_of(port, run.config.mac) for port in run.ports}
-    used = Marked(run.ports)
+    used, known = Marked(run.ports), registrations(run, pairs)
     for place, entry in message_entries(run):
         port = run.ports[entry.port - 1]
         at = port.hosts[entry.index]
@@ -271,6 +306,8 @@ def compare_answers(run: Run, walk: Walk, found: Comparison) -> Marked:
             explain(answer, ("the capture cut the frame (snap length)", True))
         if answer.differences:
             note_strangers(walk, answer)
+            if reply is not None:
+                note_pending(known, answer, port.frames.moments[at], port.frames.moments[reply])
             explain(answer, cause_of(run, walk, place))
         found.answers.append(answer)
     return used

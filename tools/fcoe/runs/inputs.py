@@ -183,6 +183,11 @@ def rewritten(frames: Frames, records: Iterator[Record], room: str) -> Frames:
     """The frames with other bytes, which stand in a file of the room; moments and numbers stay."""
     name = os.path.join(room, f"rewritten{len(os.listdir(room))}")
     write_classic(name, records)
+    return read_anew(frames, name)
+
+
+def read_anew(frames: Frames, name: str) -> Frames:
+    """Frames whose bytes stand in another file."""
     made = classic(name).frames
     made.numbers, made.interfaces = frames.numbers, frames.interfaces
     return made

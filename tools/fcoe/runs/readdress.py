@@ -1,15 +1,18 @@
 """Addresses of a capture rewritten, in every field that holds one, with the granted MACs and the check sequences."""
+import os
 import zlib
 from bisect import bisect_right
 from dataclasses import replace
+from itertools import accumulate
 from typing import Callable, Iterator, Optional
 
 from ..errors import Refused
+from ..frames.captures import write_rows
 from ..frames.columns import Record
 from ..frames.fields import LISTED
 from ..frames.heard import KEEP_ALIVE, LOGIN, LOGIN_REPLY, Fc, Heard, fc_check, granted_in, hear, is_login, login_names, number
 from .configs import Config
-from .inputs import Port, rewritten
+from .inputs import Port, read_anew
 from .pairs import Exchanges, Moment, in_order, replies_of
 
 WELL_KNOWN = 0xFF0000
@@ -256,28 +259,32 @@ def moved_flows(port: Port, mapping: Mapping, fc_maps: FcMaps) -> list[Optional[
     return found
 
 
-def moved_records(port: Port, messages: dict[int, bytes], flows: list[Optional[MovedFlow]]) -> Iterator[Record]:
-    """The records of a port with other addresses."""
-    frames, greatest = port.frames, 0
-    for at, flow in enumerate(frames.flow_of):
-        record, moving = frames.record(at), flows[flow]
-        greatest = max(greatest, record.moment)
-        if moving is not None and is_whole(record):
-            record.data = moving.moved(record.data, (greatest, port.number, at))
-        elif at in messages:
-            record.data = messages[at]
-        yield record
+def moved_frames(port: Port, messages: dict[int, bytes], flows: list[Optional[MovedFlow]]) -> Iterator[bytes]:
+    """The frames of a port with other addresses."""
+    frames, take = port.frames, port.frames.source.take
+    columns = zip(frames.flow_of, accumulate(frames.moments, max), frames.places, frames.sizes, frames.lengths)
+    for at, (flow, greatest, place, size, length) in enumerate(columns):
+        moving = flows[flow]
+        if moving is not None and size == length:
+            yield moving.moved(take(place, size), (greatest, port.number, at))
+        else:
+            yield messages.get(at) or take(place, size)
+
+
+def moved_port(port: Port, messages: dict[int, bytes], flows: list[Optional[MovedFlow]], room: str) -> Port:
+    """A port with other addresses, where any of its frames changes."""
+    if not messages and not any(flows):
+        return port
+    name = os.path.join(room, f"moved{len(os.listdir(room))}")
+    write_rows(name, zip(port.frames.moments, port.frames.lengths, moved_frames(port, messages, flows)))
+    return replace(port, frames=read_anew(port.frames, name))
 
 
 def readdressed(ports: list[Port], config: Config, grants: dict[Request, tuple[int, Optional[int]]], fc_map: bytes, room: str) -> tuple[list[Port], dict[int, int]]:
     """The ports with the switch's addresses rewritten to those of a run, in both directions; and which were moved out of the run's way."""
     mapping, fc_maps = Mapping(config, grants, domains_of(ports)), (fc_map, config.fc_map)
     messages = moved_messages(ports, mapping, fc_maps)
-    made = []
-    for port in ports:
-        flows = moved_flows(port, mapping, fc_maps)
-        is_moved = messages[port.number] or any(it is not None for it in flows)
-        made.append(replace(port, frames=rewritten(port.frames, moved_records(port, messages[port.number], flows), room)) if is_moved else port)
+    made = [moved_port(port, messages[port.number], moved_flows(port, mapping, fc_maps), room) for port in ports]
     return made, mapping.strangers
 
 

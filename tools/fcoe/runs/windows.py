@@ -1,11 +1,13 @@
 """Whether the window of a run decided over a frame: the order of frames of several ports within one window is free (docs/JOURNAL.md)."""
 from typing import Iterator, Optional, Sequence
 
-from ..frames.heard import Heard
+from ..frames.heard import Heard, fcid
 from .fabric import Login, Walk
 from .journals import Frame
 from .program import Run
 from .readdress import CT_FIRST
+
+E_D_TOV = 2000  # milliseconds
 
 
 def login_of(walk: Walk, address: int, place: int) -> Optional[Login]:
@@ -54,6 +56,17 @@ def is_otherwise(run: Run, walk: Walk, entry: Frame, place: int) -> bool:
                 if (gap_of(run, entry, other) >= 0) != (there < place):
                     return True
     return False
+
+
+def at_its_end(walk: Walk, entry: Frame, heard: Heard, place: int) -> str:
+    """Which login ended so near to a frame that a switch may have had it on its way; empty where none did."""
+    is_late = entry.verdict in ("dropped source-login", "dropped dest-login")
+    for _, address in ends_of(heard) if is_late or heard.kind == "LOGO" else ():
+        login = login_of(walk, address, place)
+        gap = login.until - entry.clock if login is not None and login.until is not None else E_D_TOV + 1
+        if (-E_D_TOV <= gap <= 0) if is_late else (0 <= gap <= E_D_TOV):
+            return f"the login of {fcid(address)} ended {abs(gap)} ms {'before' if is_late else 'behind'} it, within E_D_TOV: what was on its way then may be taken or left"
+    return ""
 
 
 def near_changes(run: Run, walk: Walk, places: Sequence[int]) -> list[int]:

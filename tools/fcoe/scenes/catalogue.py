@@ -5,11 +5,11 @@ import traceback
 from typing import Any
 
 from ..errors import Refused, meant
-from . import clearing, discovery, exchanges, keeping, logins, services, targets, vlans, whole
+from . import clearing, discovery, exchanges, forwarders, keeping, logins, services, targets, vlans, whole
 from .holding import FIRST, FLOGI
 from .script import Scene, Wait, Want
 
-MODULES = (vlans, discovery, logins, keeping, clearing, services, exchanges, targets, whole)
+MODULES = (vlans, discovery, forwarders, logins, keeping, clearing, services, exchanges, targets, whole)
 LEARN = Scene("names", "The host's port names are learned.", "", (Want(FLOGI, 2 * FIRST), Wait(4)))
 
 

@@ -13,6 +13,7 @@ from ..live.interfaces import check
 from ..live.sessions import new_folder
 from ..runs.program import TOP
 from ..provenance import origin
+from .beside import FOLDER, Beside, SecondWire
 from .director import READY, Director, Played
 from .hosts import Host, Tried
 from .script import Scene, World
@@ -81,7 +82,10 @@ class Play:
         self.world.peer = peer_of(scene.setup, self.peer_wire) if scene.setup.peer != "none" else None
         names = [bytes.fromhex(it.replace(":", "")) for it in job.names]
         self.folder.config.write_text(configuration(scene.setup, names), encoding="ascii")
+        self.second = Beside(job.program, self.folder.path, scene.setup, SecondWire(self.bending, self.wire)) if scene.setup.second else None
         self.stage = Stage(job.program, self.folder, {job.tried.interface: self.wire, "peer": self.peer_wire}, self.turn)
+        if self.second is not None:
+            self.second.begin(self.stage)
         self.begun, self.is_begun, self.why = time.monotonic(), False, ""
         self.is_ours = False  # ended by the scene itself
         if scene.setup.peer == "there" and self.world.peer is not None:
@@ -90,6 +94,8 @@ class Play:
     def turn(self) -> None:
         """What is done between two turns of the session."""
         self.wire.push()
+        if self.second is not None:
+            self.second.step()
         if self.world.peer is not None:
             self.world.peer.timers.run()
         passed = time.monotonic() - self.begun
@@ -129,12 +135,25 @@ class Play:
         finally:
             self.host.end()
             self.peer_wire.close()
+            second = self.end_second()
         found = Outcome(self.scene.name, self.scene.title, self.scene.source, folder=str(self.folder.path))
         found.seconds, found.steps = round(time.monotonic() - self.begun, 2), self.director.played
         found.last_heard = next((round(it.moment, 2) for it in reversed(self.director.events) if it.from_host), None)
         found.names, found.bent = [colons(it) for it in self.world.names], self.bending.counted
         self.judge(found, ended.status, ended.line)
+        if second and found.verdict != UNABLE:
+            found.verdict, found.why = UNABLE, second
         return found
+
+    def end_second(self) -> str:
+        """Ends the second forwarder, where there is one; in words what is amiss with it."""
+        if self.second is None:
+            return ""
+        ended, folder = self.second.finish(), self.folder.path / FOLDER
+        said = replayed(self.job.program, folder, 1)
+        if ended.status:
+            return f"the second forwarder ended with status {ended.status}: {ended.line}"
+        return "" if said == f"legal {ended.line.split()[-1]}" else f"replay of the second forwarder says '{said}'"
 
     def judge(self, found: Outcome, status: int, line: str) -> None:
         """The verdict."""
@@ -165,8 +184,8 @@ class Play:
             found.verdict, found.why = BROKEN, "; ".join(found.broken)
 
 
-def replayed(program: str, folder: pathlib.Path) -> str:
-    words = [program, "replay", "fabric.conf", "journal", "in1.pcap", "out1.pcap", "in2.pcap", "out2.pcap"]
+def replayed(program: str, folder: pathlib.Path, ports: int = 2) -> str:
+    words = [program, "replay", "fabric.conf", "journal", *(f"{it}{port}.pcap" for port in range(1, ports + 1) for it in ("in", "out"))]
     return subprocess.run(words, cwd=folder, capture_output=True, text=True, check=False).stdout.strip()
 
 

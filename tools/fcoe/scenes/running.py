@@ -22,7 +22,7 @@ ENDING = 60.0  # seconds that a scene that is stopped has to end
 LOOKS = 0.1
 
 
-class Stopped(Exception):
+class Stopped(KeyboardInterrupt):
     """Ctrl-C, or SIGTERM."""
 
 

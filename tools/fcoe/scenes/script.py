@@ -5,7 +5,7 @@ from typing import Callable, Optional, Protocol, Union
 from ..frames.heard import Heard
 from ..host.enode import ENode
 
-FORWARDER, VLAN = bytes.fromhex("00051e000002"), 100
+FORWARDER, SECOND, VLAN = bytes.fromhex("00051e000002"), bytes.fromhex("00051e0000ee"), 100
 Place = Union[int, str, None]  # an address, "peer", or "host", which is the N_Port of its FLOGI
 
 
@@ -359,6 +359,7 @@ class Setup:
     rezoned: float = 0.0  # seconds behind which it's the other way, by a zone set that is activated then; 0 is never
     receive: int = 2112  # of the peer
     peer_role: str = "target"  # or "initiator", where the host is the target
+    second: tuple[str, ...] = ()  # lines of the configuration of a second forwarder that is real too; none without them
     bends: tuple[Bend, ...] = ()  # from the beginning on
 
 

@@ -114,6 +114,7 @@ class HostWire(Wire):
         self.kept: list[tuple[int, bytes]] = []
         self.late: list[tuple[float, int, bytes]] = []
         self.again: list[Arrived] = []
+        self.heard_too: Callable[[bytes], None] = lambda _: None  # by a second forwarder
         self.count = 0
 
     def keep(self, frame: bytes, moment: int) -> None:
@@ -126,6 +127,8 @@ class HostWire(Wire):
             self.keep(came.frame, came.moment)
             self.note(True, hear(came.frame))
             self.again = [Arrived(it, len(it), came.moment) for _, it in self.bending.bent(came.frame, True)]
+            for it in self.again:
+                self.heard_too(it.frame)
         return self.again.pop(0)
 
     def send(self, frame: bytes) -> None:

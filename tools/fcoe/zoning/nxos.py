@@ -11,6 +11,7 @@ from .tables import Tables
 FIRST_VSAN, LAST_VSAN = 1, 4094
 NAME = r"[^\s\[\]]+"
 IN_VSAN = r"(?:\s+vsan\s+([0-9]+))?"
+IVR = re.compile(r"^ivr\s+(?=zone)", re.I)  # before zones and zone sets across VSANs
 SET = re.compile(rf"^zoneset\s+name\s+({NAME}){IN_VSAN}$", re.I)
 ZONE = re.compile(rf"^zone\s+name\s+({NAME}){IN_VSAN}$", re.I)
 BRIEF = re.compile(rf"^zone\s+({NAME})$", re.I)
@@ -33,10 +34,11 @@ NOTE = re.compile(
     re.I,
 )
 IN_COMMANDS = re.compile(r"^(member|attribute|no|!|\[)", re.I)  # what stands below the head of a zone where members stand behind `member`
+OF_VSAN = r"\s+vsan\s+\d+(?:\s+autonomous-fabric-id\s+\d+)?"  # of a member of another VSAN (IVR)
 ROLES = {"init": Role.INITIATOR, "initiator": Role.INITIATOR, "target": Role.TARGET, "both": Role.ANY}
 # members by their first word: the kind, and what stands behind the word
 MEMBERS: list[tuple[Kind, "re.Pattern[str]"]] = [
-    (Kind.WWPN, re.compile(rf"^pwwn\s+({WWN})(?:\s+lun\s+(\S+))?(.*)$", re.I)),
+    (Kind.WWPN, re.compile(rf"^pwwn\s+({WWN})(?:{OF_VSAN})?(?:\s+lun\s+(\S+))?(.*)$", re.I)),
     (Kind.NODE, re.compile(rf"^nwwn\s+({WWN})()(.*)$", re.I)),
     (Kind.FABRIC_PORT, re.compile(rf"^fwwn\s+({WWN})()(.*)$", re.I)),
     (Kind.FCID, re.compile(r"^fcid\s+(?:0x)?([0-9A-Fa-f]{6})(?:\s+lun\s+(\S+))?(.*)$", re.I)),
@@ -141,6 +143,7 @@ class Reader:
 
     def take_text(self, line: Line, text: str) -> None:
         """Each line has one use."""
+        text = IVR.sub("", text)
         if self.is_commands and self.zone is not None and self.zone.members and not IN_COMMANDS.match(text):
             self.close()
         if self.take_head(line, text) or (self.zone is None or member_of(text, line) is None) and self.take_table(line):
@@ -304,6 +307,8 @@ class Reader:
         else:
             self.end_inline()
             self.zone.members.append(member)
+        if member.kind is Kind.WWPN and re.search(OF_VSAN, text, re.I):
+            self.reading.remarks.append(f"{line.place}: {member.value} is of another VSAN (IVR), which this forwarder's zones can't say: it is a member like the others")
         self.zone.is_starred |= text.startswith("*") or text.startswith("fcid") and "[" in text
         self.is_commands = text.startswith("member")
         line.use = Use.MEMBER

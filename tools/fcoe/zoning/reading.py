@@ -18,8 +18,29 @@ READERS: dict[Vendor, Callable[[list[Line]], Reading]] = {Vendor.NXOS: read_nxos
 SHAPES = "`show zoneset active`, `show zone`, `show running-config zone`, `show device-alias database`, `show fcalias` (NX-OS), `cfgshow`, `zoneshow`, `alishow`, `cfgactvshow` (FOS), or plain lines `zone NAME WWPN WWPN ..`, to which any other switch's can be brought"
 
 
+PLAIN = "bring it to plain lines, `zone NAME WWPN WWPN ..`, one a zone (docs/ZONES.md)"
+# forms that aren't read, by what stands in them
+OTHERS: list[tuple["re.Pattern[str]", str]] = [
+    (re.compile(r"\A\s*[\[{]|\A\s*<\?xml"), "JSON or XML of a REST interface or of `| json`, which isn't read: give the text of `cfgshow` (FOS) or of `show zoneset active` (NX-OS), which has the roles of members too, or"),
+    (re.compile(r"^<[\w.-]+>\s*dis\w*\s|^\s*zoneset\s+(?!name\b|activate\b|distribute\b|overwrite|capture)\S+\s*\n\s+zone\s+(?!name\b)\S+\s*$", re.M), "the zoning of Comware (`display zoneset active`), which isn't read:"),
+    (re.compile(r"^Active Zoneset\s*:|^ZoneName\s+ZoneMember|show fc (?:zone|alias)", re.M | re.I), "the zoning of Dell FTOS (`show fc zoneset active`), which isn't read:"),
+    (re.compile(r"^\s*zoning (?:defined|enabled)-configuration\b", re.M), "the zoning of VDX (`show running-config zoning`), which isn't read:"),
+    (re.compile(r"ZoneSet\s+Zone\s+ZoneMember|^\s*Active ZoneSet Information", re.M | re.I), "the zoning of a QLogic switch (`zoning active`), which isn't read:"),
+    (re.compile(r"^\s*o- \S+ \.{3,}", re.M), "targetcli's tree: its acls are masking at the target and no zoning; of each target and those whom it lets in"),
+]
+
+
+def refuse_others(name: str, lines: list[Line]) -> None:
+    """Refuses forms that aren't read, each with the way to one that is."""
+    text = "\n".join(it.text for it in lines)
+    for sign, what in OTHERS:
+        if sign.search(text):
+            raise Refused(f"{name}: {what} {PLAIN}")
+
+
 def vendor_of(name: str, lines: list[Line]) -> Vendor:
     """Whose words a file has."""
+    refuse_others(name, lines)
     found: dict[Vendor, Line] = {}
     for line in lines:
         text = (line.command if line.is_prompt else line.text).strip()

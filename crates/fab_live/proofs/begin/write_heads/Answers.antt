@@ -1,5 +1,5 @@
 use Rattle.fab_live.specs.Files.{slots_of}
-use Rattle.fab_gather.proofs.FirstLemmas.{any}
+use Rattle.window_records.proofs.FirstLemmas.{any}
 use Rattle.fab_windows.specs.Pages.{pending}
 use Rattle.run_files.specs.Pages.{items_in}
 use Rattle.fab_live.proofs.HeadLemmas.{live_between, starts_failed, starts_broken, starts_whole}

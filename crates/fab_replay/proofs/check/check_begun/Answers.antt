@@ -1,5 +1,5 @@
 use Rattle.std.proofs.Common.{◌∙◌, ◌≡◌, ◌≤◌, [], Ok, Err, sym, subst, arith, length, drop}
-use Rattle.fab_gather.specs.Ports.{AreInputs}
+use Rattle.window_records.specs.Ports.{AreInputs}
 use Rattle.fab_replay.specs.Lines.{IsInside}
 use Rattle.fab_replay.specs.Owed.{AreMany, ReadsOut}
 use Rattle.fab_replay.specs.Windows.{Ends}

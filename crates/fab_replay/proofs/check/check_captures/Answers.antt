@@ -1,7 +1,7 @@
 use Rattle.std.proofs.Common.{Option, ap, refl, subst, sym}
 use Rattle.std.specs.Prelude.{IfSome, ◌≤◌, ℕ}
 use Rattle.fab_policy.specs.Outputs.{State}
-use Rattle.fab_gather.specs.Looks.{all_records}
+use Rattle.window_records.specs.Looks.{all_records}
 use Rattle.fab_replay.specs.Check.{captures_in, matter_of, task_of}
 use Rattle.fab_replay.specs.Windows.{Ends}
 use Rattle.fab_replay.proofs.CountLemmas.{counts_on, counts_then}

@@ -1,7 +1,7 @@
 use Rattle.std.proofs.Common.{◌≡◌, ◌+◌, ◌-◌, ◌≤◌, Bool, IfSome, IsTrue, length}
 use Rattle.fab_pages.specs.Pages.{items_in}
 use Rattle.fab_policy.specs.Journal.{Journal}
-use Rattle.fab_gather.specs.Keeping.{IsAhead}
+use Rattle.window_records.specs.Keeping.{IsAhead}
 use Rattle.fab_policy.specs.Legal.{IsLeastOf, windows_left}
 use Rattle.fab_replay.specs.Lines.{IsInside}
 use Rattle.fab_replay.specs.Owed.{PagesGrow}

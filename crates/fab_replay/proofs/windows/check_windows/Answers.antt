@@ -1,9 +1,9 @@
 use Rattle.std.proofs.Common.{◌∙◌, ◌%◌, Some, None, Ok, Err, length, refl, sym, ap, subst, arith}
 use Rattle.fab_config.specs.Settings.{Settings}
-use Rattle.fab_gather.proofs.LeavesLemmas.{takes_none, takes_then}
-use Rattle.fab_gather.proofs.SlotLemmas.{same_length}
-use Rattle.fab_gather.specs.First.{IsNextWindow}
-use Rattle.fab_gather.specs.Ports.{AreInputs, AreReady}
+use Rattle.window_records.proofs.LeavesLemmas.{takes_none, takes_then}
+use Rattle.window_records.proofs.SlotLemmas.{same_length}
+use Rattle.window_records.specs.First.{IsNextWindow}
+use Rattle.window_records.specs.Ports.{AreInputs, AreReady}
 use Rattle.fab_replay.specs.Lines.{IsInside}
 use Rattle.fab_replay.specs.Owed.{AreMany}
 use Rattle.fab_replay.specs.Windows.{Ends}

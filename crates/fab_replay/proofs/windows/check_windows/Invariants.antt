@@ -1,6 +1,6 @@
 use Rattle.std.proofs.Common.{◌≡◌, ◌-◌, ◌^◌}
 use Rattle.fab_base.specs.Ending.{NoFaults}
-use Rattle.fab_gather.specs.Ports.{TakesFrom, walk_at}
+use Rattle.window_records.specs.Ports.{TakesFrom, walk_at}
 use Rattle.fab_replay.specs.Check.{Task}
 use Rattle.fab_replay.specs.Windows.{Going, IsOf, stand_at}
 use Rattle.fab_replay.proofs.windows.check_windows.Given as goal

@@ -1,6 +1,6 @@
 use Rattle.std.proofs.Common.{arith, refl, subst, ℕ}
 use Rattle.std.proofs.lemmas.Option.{slice_get_read}
-use Rattle.fab_gather.specs.Reads.{first_index}
+use Rattle.window_records.specs.Reads.{first_index}
 use Rattle.fab_shared.specs.Handled.{HandledPort}
 use Rattle.fab_shared.proofs.FrameLemmas.{handling_none, handling_more, handling_all}
 use Rattle.fab_shared.proofs.frames.in_turn.Goals as goal

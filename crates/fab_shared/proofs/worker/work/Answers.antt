@@ -2,7 +2,7 @@ use Rattle.std.proofs.Common.{◌≡◌, arith, refl, sym}
 use Rattle.std.proofs.lemmas.Option.{slice_get_read}
 use Rattle.fab_policy.specs.Legal.{numbered_from}
 use Rattle.fab_turn.specs.Lock.{own}
-use Rattle.fab_gather.specs.Reads.{first_index}
+use Rattle.window_records.specs.Reads.{first_index}
 use Rattle.fab_shared.specs.Workers.{frames_in}
 use Rattle.fab_shared.proofs.EntryLemmas.{unless_refused}
 use Rattle.fab_shared.proofs.worker.work.Goals as goal

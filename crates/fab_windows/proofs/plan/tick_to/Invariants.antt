@@ -1,4 +1,4 @@
-use Rattle.fab_gather.proofs.ClockLemmas.{distance}
+use Rattle.window_records.proofs.ClockLemmas.{distance}
 use Rattle.fab_windows.proofs.TickLemmas.{Ticking}
 use Rattle.fab_windows.proofs.plan.tick_to.Given as goal
 

@@ -1,8 +1,8 @@
 use Rattle.std.proofs.Common.{◌≡◌, ◌∙◌, sym, subst, Ok, Err, refl}
 use Rattle.std.specs.Result.{IsErrAnd}
 use Rattle.run_files.specs.declared.fault.RunFault.TheVariants as fault
-use Rattle.fab_gather.proofs.FirstLemmas.{any}
-use Rattle.fab_gather.proofs.LeavesLemmas.{takes_none}
+use Rattle.window_records.proofs.FirstLemmas.{any}
+use Rattle.window_records.proofs.LeavesLemmas.{takes_none}
 use Rattle.run_files.specs.Faults.{fault_from}
 use Rattle.run_files.specs.Pages.{items_in}
 use Rattle.fab_windows.specs.Files.{Writes}
@@ -10,7 +10,7 @@ use Rattle.fab_windows.specs.From.{nothing_of}
 use Rattle.fab_windows.specs.Turns.{task_of}
 use Rattle.fab_windows.proofs.BeginLemmas.{ended_at_once, ended_heads, ended_looks, begun, inputs_heads}
 use Rattle.fab_windows.proofs.ResultLemmas.{told_on, not_ok}
-use Rattle.fab_gather.specs.First.{start_at}
+use Rattle.window_records.specs.First.{start_at}
 use Rattle.fab_windows.proofs.run.begin.Goals as goal
 
 pub flush-requires-clause-count : goal.flush-requires-clause-count

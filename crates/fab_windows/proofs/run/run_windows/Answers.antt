@@ -1,7 +1,7 @@
 use Rattle.std.proofs.Common.{◌∙◌, ◌+◌, ◌%◌, ◌^◌, ◌<◌, ℕ, Some, None, IfSome, Err, refl, sym, ap, subst}
 use Rattle.fab_config.specs.Settings.{Settings}
-use Rattle.fab_gather.proofs.ClockLemmas.{nearer}
-use Rattle.fab_gather.proofs.LeavesLemmas.{takes_then}
+use Rattle.window_records.proofs.ClockLemmas.{nearer}
+use Rattle.window_records.proofs.LeavesLemmas.{takes_then}
 use Rattle.fab_windows.specs.Pages.{pending}
 use Rattle.fab_policy.specs.Outputs.{State}
 use Rattle.fab_windows.specs.From.{nothing_of}
@@ -11,8 +11,8 @@ use Rattle.fab_windows.specs.Turns.{task_of, Going, Ended}
 use Rattle.fab_windows.proofs.BeginLemmas.{going_first, going_next, next_early, next_as, ended_by}
 use Rattle.fab_windows.proofs.TurnLemmas.{files_now}
 use Rattle.fab_windows.proofs.ResultLemmas.{err_is}
-use Rattle.fab_gather.specs.Ports.{walk_at}
-use Rattle.fab_gather.specs.First.{start_at, Start}
+use Rattle.window_records.specs.Ports.{walk_at}
+use Rattle.window_records.specs.First.{start_at, Start}
 use Rattle.fab_windows.specs.Files.{file_slots}
 use Rattle.fab_windows.proofs.run.run_windows.Goals as goal
 

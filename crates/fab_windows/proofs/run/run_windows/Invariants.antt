@@ -1,10 +1,10 @@
 use Rattle.std.proofs.Common.{ℕ, ◌≡◌, ◌^◌, length}
-use Rattle.fab_gather.specs.Ports.{TakesFrom, walk_at}
+use Rattle.window_records.specs.Ports.{TakesFrom, walk_at}
 use Rattle.fab_windows.specs.Pages.{pending}
 use Rattle.fab_windows.specs.From.{nothing_of}
 use Rattle.fab_windows.specs.Turns.{task_of, Going}
-use Rattle.fab_gather.proofs.ClockLemmas.{distance}
-use Rattle.fab_gather.specs.First.{start_at, Start}
+use Rattle.window_records.proofs.ClockLemmas.{distance}
+use Rattle.window_records.specs.First.{start_at, Start}
 use Rattle.fab_windows.proofs.run.run_windows.Given as goal
 
 abbrev pub invariant-windows : goal.invariant-windows

@@ -1,7 +1,7 @@
 use Rattle.std.proofs.Common.{◌∙◌, ap, sym, subst, length, Some, Err, arith}
-use Rattle.fab_gather.specs.First.{IsNextWindow}
-use Rattle.fab_gather.specs.Ports.{AreReady}
-use Rattle.fab_gather.proofs.SlotLemmas.{same_length}
+use Rattle.window_records.specs.First.{IsNextWindow}
+use Rattle.window_records.specs.Ports.{AreReady}
+use Rattle.window_records.proofs.SlotLemmas.{same_length}
 use Rattle.fab_windows.specs.Pages.{FlushedFor, pending}
 use Rattle.fab_windows.specs.Turns.{task_of}
 use Rattle.fab_windows.proofs.GoLemmas.{gathers_as, gathered_by, window_ends, files_then}

@@ -2,10 +2,10 @@ use Rattle.std.proofs.Common.{◌≡◌, ℕ, [], ◌∷◌, true, false, None, 
 use Rattle.std.specs.Prelude.{nat_lt}
 use Rattle.std.proofs.lemmas.Bool.{le-ltb}
 use Rattle.fab_base.specs.Seen.{Seen}
-use Rattle.fab_gather.specs.Looks.{MOST_SPAN}
-use Rattle.fab_gather.specs.Ports.{walk_at}
-use Rattle.fab_gather.proofs.FirstLemmas.{none_below}
-use Rattle.fab_gather.proofs.SlotLemmas.{same_length}
+use Rattle.window_records.specs.Looks.{MOST_SPAN}
+use Rattle.window_records.specs.Ports.{walk_at}
+use Rattle.window_records.proofs.FirstLemmas.{none_below}
+use Rattle.window_records.proofs.SlotLemmas.{same_length}
 use Rattle.fabric_tests.proofs.windows.all_windows.Goals as goal
 
 pub take_windows-requires-clause-ready : goal.take_windows-requires-clause-ready

@@ -1,6 +1,6 @@
 use Rattle.std.proofs.Common.{◌≡◌, ◌+◌, [], ◌∷◌, length}
-use Rattle.fab_gather.specs.Laws.{ahead_of}
-use Rattle.fab_gather.specs.Ports.{AreReady, slots_of}
+use Rattle.window_records.specs.Laws.{ahead_of}
+use Rattle.window_records.specs.Ports.{AreReady, slots_of}
 use Rattle.fabric_tests.proofs.windows.all_windows.Given as goal
 
 abbrev pub invariant-windows : goal.invariant-windows

@@ -1,7 +1,7 @@
 use Rattle.std.proofs.Common.{List, length, sym, ap, subst, ◌∙◌}
-use Rattle.fab_gather.specs.Ports.{AreReady}
-use Rattle.fab_gather.specs.declared.shelf.Shelf.{Shelf}
-use Rattle.fab_gather.proofs.SlotLemmas.{length-slots}
+use Rattle.window_records.specs.Ports.{AreReady}
+use Rattle.window_records.specs.declared.shelf.Shelf.{Shelf}
+use Rattle.window_records.proofs.SlotLemmas.{length-slots}
 use Rattle.fabric_tests.proofs.windows.windows.Goals as goal
 
 pub all_windows-requires-clause-count : goal.all_windows-requires-clause-count

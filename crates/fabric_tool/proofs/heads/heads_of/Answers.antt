@@ -1,5 +1,5 @@
 use Rattle.std.proofs.Common.{◌+◌, ◌<◌, List, sym, subst, arith}
-use Rattle.fab_gather.specs.declared.shelf.Input.{Input}
+use Rattle.window_records.specs.declared.shelf.Input.{Input}
 use Rattle.fab_replay.proofs.ResultLemmas.{err_is}
 use Rattle.fabric_tool.specs.Command.{count_of, ins_of}
 use Rattle.fabric_tool.specs.Reading.{HeadsRead}

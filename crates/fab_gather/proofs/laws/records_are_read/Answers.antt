@@ -1,5 +1,0 @@
-use Rattle.fab_gather.proofs.ReadLemmas.{reads_on, read_stays, read_is_below, read_splits, read_is_all}
-use Rattle.fab_gather.proofs.laws.records_are_read.Goals as goal
-
-pub returns : goal.returns
-returns c = record { on = reads_on; stays = read_stays; below = read_is_below; splits = read_splits; all = read_is_all }

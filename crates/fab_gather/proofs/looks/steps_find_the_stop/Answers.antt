@@ -1,5 +1,0 @@
-use Rattle.fab_gather.proofs.LooksLemmas.{steps_find_stop, late_is_stop}
-use Rattle.fab_gather.proofs.looks.steps_find_the_stop.Goals as goal
-
-pub returns : goal.returns
-returns c = record { steps = steps_find_stop; late = late_is_stop }

@@ -1,5 +1,0 @@
-use Rattle.fab_gather.proofs.KeepLemmas.{before_keeps, stopped_keeps, kept_all, stops_ahead}
-use Rattle.fab_gather.proofs.looks.stops_keep_what_is_before.Goals as goal
-
-pub returns : goal.returns
-returns c = record { ahead = stops_ahead; before = before_keeps; just = stopped_keeps; all = kept_all }
