@@ -34,3 +34,10 @@ def states(tape: list[Record]) -> dict[str, set[str]]:
     for it in said["rules"]:
         found.setdefault(it["state"], set()).add(it["rule"])
     return found
+
+
+def verdict(rules: str, found: dict[str, set[str]], before: dict[str, set[str]]) -> str:
+    """Whether a fault was found by one of its rules, by others (amiss), told as open (hinted), or missed."""
+    blamed = found.get(BROKEN, set())
+    new = found.get(OPEN, set()) - before.get(OPEN, set())
+    return "found" if set(rules.split()) & blamed else "amiss" if blamed else "hinted" if new else "missed"

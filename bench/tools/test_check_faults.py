@@ -10,10 +10,10 @@ from typing import Any
 import pytest
 from check_edits import Pick, drop, frame, header, payload, put, resized
 from check_edits import behind_fc as behind
-from checking import BROKEN, LOOK, OPEN, said_of, states
+from checking import BROKEN, LOOK, said_of, states, verdict
 from fault_edits import in_exchange, part, reused
 from faults import FAULTS, Fault
-from faults_known import OTHERWISE
+from faults_known import GIVEN, OTHERWISE
 from good_runs import base_tapes
 from long_capture import long_capture
 from machine import slow
@@ -26,11 +26,8 @@ BASES = base_tapes()
 
 
 def state_of(fault: Fault, wear: str, before: dict[str, set[str]]) -> str:
-    """Whether a fault was found by its rule, by others (amiss), told as open (hinted), or missed."""
     found = states(WEARS[wear](fault.change(BASES[fault.base]), random.Random(1)))
-    rules, blamed = set(fault.rules.split()), found.get(BROKEN, set())
-    new = found.get(OPEN, set()) - before.get(OPEN, set())
-    return "found" if rules & blamed else "amiss" if blamed else "hinted" if new else "missed"
+    return verdict(fault.rules, found, before)
 
 
 def table(some: list[Fault], wear: str) -> dict[str, str]:
@@ -44,7 +41,8 @@ def expected(it: Fault) -> str:
 
 
 def test_names_are_distinct() -> None:
-    assert len({it.name for it in FAULTS}) == len(FAULTS) >= 200
+    names = {it.name for it in FAULTS}
+    assert len(names) == len(FAULTS) >= 200 and GIVEN < names
 
 
 def one_a_rule() -> list[Fault]:
