@@ -107,6 +107,8 @@ REJECTED_STEPS = {0x05: "the target is busy: its load, its number of logins", 0x
 def login_steps(behind: Behind, pair: Pair, facts: PairFacts, step: str) -> Iterator[Answer]:
     """PLOGIs or PRLIs that came back, were rejected, or found no answer."""
     groups = [it for it in facts.failed(step) if not got_over(behind.facts, pair, step, it.since)]
+    if not groups:
+        return
     whom = behind.whom(pair[1])
     back, said_no = by_end(groups, End.RETURNED), by_end(groups, End.REJECTED)
     silent = by_end(groups, End.UNANSWERED, End.ABORTED, End.ABORT_REJECTED, End.ABORT_UNANSWERED, End.LOGGED_OUT)

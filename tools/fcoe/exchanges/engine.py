@@ -204,7 +204,9 @@ class Engine:
         """Counts a frame, by port and by sequence."""
         exchange.frames += 1
         exchange.until, exchange.last = max(exchange.until, frame.moment), frame.place
-        view = exchange.views.setdefault(frame.port, View())
+        view = exchange.views.get(frame.port)
+        if view is None:
+            view = exchange.views[frame.port] = View()
         word = frame.role.word
         view.kinds[word] = view.kinds.get(word, 0) + 1
         view.longest = max(view.longest, frame.length)

@@ -1,6 +1,8 @@
 """Which numbers of a range were seen: bytes of a transfer by their offset, frames of a sequence by their SEQ_CNT."""
 from bisect import bisect_right
 
+NONE: list[int] = []  # of ranges that are empty yet, which most stay: never added to
+
 
 class Spans:
     """Ranges that don't touch, in order; what comes in order stays one range, however long it is."""
@@ -8,14 +10,16 @@ class Spans:
     __slots__ = ("begins", "ends")
 
     def __init__(self) -> None:
-        self.begins: list[int] = []
-        self.ends: list[int] = []
+        self.begins = self.ends = NONE
 
     def add(self, begin: int, end: int) -> bool:
         """Takes a range; tells whether any of it is new."""
         if begin >= end:
             return False
-        if self.ends and self.begins[-1] <= begin <= self.ends[-1]:  # the usual case: behind all that came
+        if not self.ends:
+            self.begins, self.ends = [begin], [end]
+            return True
+        if self.begins[-1] <= begin <= self.ends[-1]:  # the usual case: behind all that came
             is_new = end > self.ends[-1]
             self.ends[-1] = max(end, self.ends[-1])
             return is_new

@@ -47,7 +47,9 @@ class Statistics:
         if len(self.sums) >= MOST:
             self.crowded += 1
             group = (it.kind, "others", "", 0)
-        return self.sums.setdefault(group, Sum())
+        if group not in self.sums:
+            self.sums[group] = Sum()
+        return self.sums[group]
 
     def ranked(self) -> Iterable[tuple[Group, Sum]]:
         """By kind, responder, LUN, and then by count."""
