@@ -2,7 +2,7 @@
 ghost use Rattle.std.specs.Prelude.{◌≡◌, ◌≤◌, ◌⊎◌, IsTrue, Some, None};
 ghost use Rattle.fab_base.specs.Seen.{Rose};
 ghost use Rattle.fabric_tool.specs.Command as spec;
-ghost use Rattle.fabric_tool.specs.Ends.{Ends, Holds, HoldsFor, KeepsOthers, Prints, TouchesOwn};
+ghost use Rattle.fabric_tool.specs.Ends.{Ends, Holds, KeepsOthers, Prints, TouchesOwn};
 ghost use Rattle.fabric_tool.specs.Texts.{IsUntouched};
 ghost use Rattle.fabric_tool.specs.Rechecking.{IsRechecked, IsReplayed};
 ghost use Rattle.fabric_tool.specs.Statuses.{Done, OfCommand, IsRefused, IsPastLimit};
@@ -119,25 +119,9 @@ fn run_and_report<R: Threads + Wait + Sync, D: Depot, K: Sink, G: Gate + Sync>(
     ensures touches { (k : spec.Command) → spec.command words.now ≡ Some k →
         TouchesOwn k (D.seen depot.old) (D.seen depot.new) }
 {
-    let outcome = outcome_of(rt, alloc, words, depot, gate);
-    report(alloc, outcome, say)
-}
-
-fn outcome_of<R: Threads + Wait + Sync, D: Depot, G: Gate + Sync>(
-    rt: &R,
-    alloc: Global,
-    words: &[String],
-    depot: &mut D,
-    gate: &G,
-) -> Outcome
-    requires { spec.AllKnown (D.seen depot.old) words.now }
-    ensures holds { HoldsFor (spec.command words.now) (D.seen depot.old) (D.seen depot.new) result }
-    ensures touches { (k : spec.Command) → spec.command words.now ≡ Some k →
-        TouchesOwn k (D.seen depot.old) (D.seen depot.new) }
-{
     match form_of(words) {
-        Some(form) => outcome_by(rt, alloc, form, words, depot, gate),
-        None => Outcome::Words,
+        Some(form) => report(alloc, outcome_by(rt, alloc, form, words, depot, gate), say),
+        None => report(alloc, Outcome::Words, say),
     }
 }
 

@@ -1,7 +1,6 @@
 //! The command of a process.
 ghost use Rattle.std.specs.Prelude.{◌≡◌, ◌≢◌, ◌≤◌, ◌⊎◌, drop, IfOk, IfErr};
 ghost use Rattle.std.specs.declared.io.ErrorKind.TheVariants.{OutOfMemory};
-ghost use Rattle.fabric_tool.specs.Command.{AllKnown};
 ghost use Rattle.fabric_tool.specs.Ends.{Ends};
 ghost use Rattle.tool_process.specs.Edge.{KnowsAll, untold};
 ghost use Rattle.tool_process.specs.Same.{IsPrinted};
@@ -10,7 +9,7 @@ use crate::edge::{FileDepot, StdSink};
 use crate::same::standard_output;
 use crate::streams::hold_closed;
 use crate::telling::{WRITE_FAULT, tell};
-use fab_base::{Depot, NoMemory, OpenGate, Sink};
+use fab_base::{NoMemory, OpenGate, Sink};
 use fabric_tool::{Outcome, fabric_tool, report};
 use std::alloc::{AllocGlobal, Global};
 use std::io::{Eprint, ErrorKind, Print};
@@ -41,14 +40,15 @@ where
         Ok(depot) => depot,
         Err(NoMemory) => return report(alloc, Outcome::Memory, &mut say),
     };
-    let status = status_over(rt, alloc, &words, &mut depot, &mut say);
+    let status = status_of_process(rt, alloc, &words, &mut depot, &mut say);
     tell(rt, &words, &depot, status);
     status
 }
 
-// Runs the command that words are over real files, and answers its status. Where a name leads to
-// the file that is the standard output nothing is done: the line would be printed into it.
-fn status_over<R: Threads + Wait + Sync + Files, K: Sink>(
+/// Runs the command that words are over real files, prints its line, and answers its status. Where a
+/// name leads to the file that is the standard output nothing is done, and the status is 4: the line
+/// would be printed into it. No test holds a worker.
+pub fn status_of_process<R: Threads + Wait + Sync + Files, K: Sink>(
     rt: &R,
     alloc: Global,
     words: &[String],
@@ -64,7 +64,7 @@ fn status_over<R: Threads + Wait + Sync + Files, K: Sink>(
     if depot.mix().is_printed() {
         return WRITE_FAULT;
     }
-    status_of_process(rt, alloc, words, depot, say)
+    fabric_tool(rt, alloc, words, depot, say, &OpenGate)
 }
 
 /// The words behind the program's name. A command line that isn't UTF-8 is no command, and memory
@@ -101,20 +101,4 @@ fn behind_the_first(words: Vec<String>) -> Vec<String>
         words.remove(0);
     }
     words
-}
-
-/// Runs the command that words are over a depot that knows them, prints its line, and answers its
-/// status. No test holds a worker.
-pub fn status_of_process<R: Threads + Wait + Sync, D: Depot, K: Sink>(
-    rt: &R,
-    alloc: Global,
-    words: &[String],
-    depot: &mut D,
-    say: &mut K,
-) -> u8
-    requires { AllKnown (D.seen depot.old) words.now }
-    ensures ends { Ends words.now (D.seen depot.old) (D.seen depot.new) (K.sunk say.old)
-        (K.sunk say.new) result }
-{
-    fabric_tool(rt, alloc, words, depot, say, &OpenGate)
 }

@@ -1,7 +1,8 @@
 //! The calls of a gate.
-use crate::inputs::{CONFIG, HEAD, REQUEST, TWO_PORTS, concatenated, depot_of, words_in};
+use crate::inputs::{
+    CONFIG, HEAD, REQUEST, TWO_PORTS, concatenated, depot_of, status_of, words_in,
+};
 use fab_base::{FcId, Gate, MemSink, PortNo};
-use fabric_tool::fabric_tool;
 use std::sync::atomic::{AtomicU64, Ordering};
 use std::test::Fail;
 
@@ -45,7 +46,7 @@ fn each_frame_passes_the_gate(rt: HostRuntime) -> Result<(), Fail> {
     let gate = Recorder {
         calls: AtomicU64::new(0),
     };
-    let status = fabric_tool(&rt, alloc, &words, &mut depot, &mut say, &gate);
+    let status = status_of(&rt, alloc, &words, &mut depot, &mut say, &gate);
     assert_eq!(rt; status, 0);
     let journal = b"journal 2\n1000 tick\n1000 1 0 vlans\n1100 tick\n1100 2 0 vlans\n1200 tick\n\
             1200 1 1 vlans\n";

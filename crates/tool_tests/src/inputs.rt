@@ -1,5 +1,7 @@
 //! What the tests share: a depot of two captures, words, and a run.
-use fab_base::{MemDepot, MemSink, NoMemory, OpenGate};
+ghost use Rattle.fabric_tool.specs.Command.{AllKnown};
+
+use fab_base::{Depot, Gate, MemDepot, MemSink, NoMemory, OpenGate};
 use fabric_tool::fabric_tool;
 use std::alloc::{AllocError, Global};
 use std::process::Abort;
@@ -74,6 +76,20 @@ pub(crate) fn depot_of(
 
 pub(crate) const TWO_PORTS: [&str; 7] = ["run", "K", "J", "IN", "OUT", "IN2", "OUT2"];
 
+// The status of a command over a depot that knows its words: the one call of the tests.
+pub(crate) fn status_of<R: Threads + Wait + Sync, D: Depot, G: Gate + Sync>(
+    rt: &R,
+    alloc: Global,
+    words: &[String],
+    depot: &mut D,
+    say: &mut MemSink,
+    gate: &G,
+) -> u8
+    requires { AllKnown (D.seen depot.old) words.now }
+{
+    fabric_tool(rt, alloc, words, depot, say, gate)
+}
+
 // Runs a command, which prints this line and answers this status.
 pub(crate) fn runs<R: Threads + Wait + Sync + Abort>(
     rt: &R,
@@ -86,7 +102,7 @@ pub(crate) fn runs<R: Threads + Wait + Sync + Abort>(
     let mut say = MemSink::new(alloc, 100)?;
     let words = words_in(alloc, words)?;
     assert!(rt; depot.knows_all(&words));
-    let status = fabric_tool(rt, alloc, &words, depot, &mut say, &OpenGate);
+    let status = status_of(rt, alloc, &words, depot, &mut say, &OpenGate);
     assert_eq!(rt; say.content(), line);
     assert_eq!(rt; status, wanted);
     Ok(())

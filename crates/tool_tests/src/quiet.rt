@@ -1,8 +1,9 @@
 //! Windows of two ports under gates that hold nobody: few bytes go in turn, ports ascending, and
 //! 64 MiB by a worker a port.
-use crate::inputs::{CONFIG, HEAD, REQUEST, TWO_PORTS, depot_of, put_record, runs, words_in};
+use crate::inputs::{
+    CONFIG, HEAD, REQUEST, TWO_PORTS, depot_of, put_record, runs, status_of, words_in,
+};
 use fab_base::{FcId, Gate, MemDepot, MemSink, PortNo};
-use fabric_tool::fabric_tool;
 use std::alloc::Global;
 use std::process::Abort;
 use std::sync::Wait;
@@ -168,7 +169,7 @@ fn runs_past<R: Threads + Wait + Sync + Abort>(
     let words = words_in(alloc, &TWO_PORTS)?;
     assert!(rt; depot.knows_all(&words));
     let mut say = MemSink::new(alloc, 100)?;
-    let status = fabric_tool(rt, alloc, &words, depot, &mut say, door);
+    let status = status_of(rt, alloc, &words, depot, &mut say, door);
     assert_eq!(rt; status, 0);
     assert_eq!(rt; say.content(), b"frames 2048 entries 2049\n".as_slice());
     Ok(())

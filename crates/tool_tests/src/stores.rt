@@ -2,9 +2,8 @@
 //! what is opened and fetched.
 ghost use Rattle.std.specs.Prelude.{◌≡◌};
 
-use crate::inputs::{CONFIG, HEAD, SOLICITATION, put_record, words_in};
+use crate::inputs::{CONFIG, HEAD, SOLICITATION, put_record, status_of, words_in};
 use fab_base::{Depot, Failed, MemDepot, MemSink, OpenGate};
-use fabric_tool::fabric_tool;
 use std::alloc::Global;
 use std::process::Abort;
 use std::sync::Wait;
@@ -87,7 +86,7 @@ fn windows_are_read_as_they_come(rt: HostRuntime) -> Result<(), Fail> {
     assert!(rt; depot.knows_all(&words));
     let mut say = MemSink::new(alloc, 100)?;
     let mut counter = counted(depot);
-    let status = fabric_tool(&rt, alloc, &words, &mut counter, &mut say, &OpenGate);
+    let status = status_of(&rt, alloc, &words, &mut counter, &mut say, &OpenGate);
     assert_eq!(rt; status, 0);
     assert_eq!(rt; counter.fetched, capture.len().saturating_add(CONFIG.len()));
     assert!(rt; counter.before.unwrap_or(counter.fetched) < capture.len() / 2);
@@ -109,7 +108,7 @@ fn opened_by<R: Threads + Wait + Sync + Abort>(
     assert!(rt; depot.knows_all(&words));
     let mut say = MemSink::new(alloc, 10_000)?;
     let mut counter = counted(depot);
-    let status = fabric_tool(rt, alloc, &words, &mut counter, &mut say, &OpenGate);
+    let status = status_of(rt, alloc, &words, &mut counter, &mut say, &OpenGate);
     Ok((status, counter.opened))
 }
 

@@ -1,7 +1,6 @@
 //! Two ports in one window, each with a worker of its own under gates that hold them.
-use crate::inputs::{CONFIG, REQUEST, TWO_PORTS, concatenated, depot_of, words_in};
+use crate::inputs::{CONFIG, REQUEST, TWO_PORTS, concatenated, depot_of, status_of, words_in};
 use fab_base::{FcId, Gate, MemDepot, MemSink, PortNo};
-use fabric_tool::fabric_tool;
 use std::alloc::Global;
 use std::process::Abort;
 use std::sync::Wait;
@@ -129,7 +128,7 @@ fn runs_under<R: Threads + Wait + Sync + Abort, G: Gate + Sync>(
     let words = words_in(alloc, &TWO_PORTS)?;
     assert!(rt; depot.knows_all(&words));
     let mut say = MemSink::new(alloc, 100)?;
-    let status = fabric_tool(rt, alloc, &words, depot, &mut say, gate);
+    let status = status_of(rt, alloc, &words, depot, &mut say, gate);
     assert_eq!(rt; status, 0);
     Ok(())
 }
