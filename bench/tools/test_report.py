@@ -1,9 +1,11 @@
-"""`look`'s reports in a Chromium without a window: 480, 1,000 and 1,600 pixels wide, in light and dark colours, by mouse and by keys alone.
+"""`look`'s reports in a Chromium without a window: 480 to 1,600 pixels wide, in light and dark colours, by mouse and by keys alone.
 
 The reports are those of `make`'s 20,000 frames, of the demo in both directions, of 64 ports, and of a login that fails. WEGCAPHO_PICTURES names a folder
 that gets a picture of each. It needs chromium, chromium-driver, python3-selenium, python3-jinja2 and tshark.
 """
 import atexit
+import json
+import math
 import os
 import pathlib
 import re
@@ -22,7 +24,8 @@ try:
 except ImportError as why:
     raise unittest.SkipTest(f"{why}: apt-get install python3-selenium") from None
 
-WIDTHS, SCHEMES = (480, 1000, 1600), ("light", "dark")
+WIDTHS, SCHEMES = (480, 1000, 1300, 1600), ("light", "dark")
+UNSCROLLED = 1300  # pixels from which on nothing scrolls sideways
 MOST_BYTES = 6_000_000
 CONTRAST = 4.5  # of text to what is behind it (WCAG 2, AA)
 FAINT = """
@@ -47,6 +50,14 @@ ACTIVE = "const it = document.activeElement; return [it.tagName, it.id, it.textC
 OUTLINED = """
     const it = document.activeElement, style = getComputedStyle(it), around = getComputedStyle(document.getElementById('view'));
     return style.outlineStyle !== 'none' && parseFloat(style.outlineWidth) >= 2 || it.id === 'grid' && around.boxShadow !== 'none';"""
+SIDEWAYS = """
+    document.querySelectorAll('details').forEach(it => { it.open = true; });
+    const scrolls = it => ["auto", "scroll"].includes(getComputedStyle(it).overflowX) && it.scrollWidth > it.clientWidth;
+    return [...document.querySelectorAll("body, body *")].filter(scrolls).map(it => [it.id, it.className, it.ariaLabel, it.scrollWidth, it.clientWidth]);"""
+PLOT = """
+    const left = it => it.getBoundingClientRect().left, plot = document.querySelector("#exchanges .plot"), bars = it => it.querySelector(".login").getBoundingClientRect();
+    const marks = [...plot.querySelectorAll(".scale span")].map(it => [it.textContent, left(it)]);
+    return [marks, [...plot.tBodies[0].rows].map(it => [...[...it.cells].slice(0, 3).map(cell => cell.textContent), bars(it).left, bars(it).right, left(it.querySelector(".greatest"))])];"""
 ARROWS = "return [...document.querySelectorAll('#picture .arrow text')].map(it => it.textContent);"
 
 
@@ -128,6 +139,28 @@ class Page(Base):
                     wide, room = self.run_in("const it = document.documentElement; return [it.scrollWidth, it.clientWidth]")
                     self.assertEqual((wide, room), (width, width), (name, scheme))
                     self.picture(name, f"{width}-{scheme}")
+
+    def test_without_scrolling_sideways(self) -> None:
+        """In a window of 1,300 pixels no box scrolls sideways either, whatever is unfolded."""
+        for name in self.reports:
+            self.open(name, width=UNSCROLLED)
+            self.assertEqual(self.run_in(SIDEWAYS), [], name)
+
+    def test_exchanges(self) -> None:
+        """The table has the exchanges of `look exchanges`, and the plot draws each command's times at their places on its scale."""
+        report = self.open("switch", width=UNSCROLLED)
+        words = [str(TOP / "tools" / "look"), "exchanges", "--json", "--quiet", *report.captures]
+        wanted = json.loads(subprocess.run(words, cwd=report.file.parent, capture_output=True, text=True, check=True).stdout)
+        rows = self.run_in("return [...[...document.querySelectorAll('#exchanges table')].at(-1).tBodies[0].rows].map(row => [...row.cells].map(it => it.textContent))")
+        self.assertEqual([(it[0], it[2]) for it in rows], [(it["first_frame"], it["ox_id"]) for it in wanted["exchanges"]])
+        sums = [it for it in wanted["sums"] if it["kind"] == "FCP" and it["median_ns"] is not None]
+        marks, plotted = self.run_in(PLOT)
+        self.assertEqual([(it[0], int(it[2])) for it in plotted], [(f"{it['command']} LUN {it['lun']}", it["count"]) for it in sums])
+        scale = dict(marks)
+        decade = (scale["1 s"] - scale["1 us"]) / 6
+        for (*_, begin, end, last), it in zip(plotted, sums):
+            for place, time_ in ((begin, it["median_ns"]), (last, it["greatest_ns"]), (end, it["p99_ns"])):
+                self.assertAlmostEqual(place, scale["1 us"] + decade * math.log10(max(time_, 1000) / 1000), delta=5, msg=str(it))
 
     def picture(self, name: str, words: str) -> None:
         for part, where in enumerate(("", "frames", "ladder"), 1):

@@ -1,5 +1,5 @@
 // The ladder of the frames that the table shows: ENodes (or ports) and the forwarder as lines, time downwards, a part at a time.
-const PART = 200, COLUMN = 230, STEP = 26, LEFT = 160, LINES = 8;
+const PART = 200, COLUMN = 230, NAMED = 150, STEP = 26, LEFT = 160, LINES = 8, ROOM = 960; // a picture narrower than ROOM scrolls
 let arrows = [], part = 0, arrowOf = new Map(), noise = 0; // of the whole choice, and which part of it is drawn
 
 function drawn(name, properties, text) {
@@ -52,24 +52,32 @@ function pictureOf(some, wanted) {
     drawPart();
 }
 
-// The lines from left to right: ports in two halves, the forwarder (-1) between them. Beyond a few ENodes a line is a port.
+// What stands above the lines; where these are close, a port's number alone.
+function titlesOf(order, isByPort, column) {
+    const ofPort = it => column < 60 ? [String(it)] : ["port " + it], ofNode = it => ["port " + page.lines[it][0], page.lines[it][1], page.lines[it][2]];
+    return order.map(it => it < 0 ? (column < 60 ? ["", "forwarder"] : ["forwarder"]) : isByPort ? ofPort(it) : ofNode(it));
+}
+
+// The lines from left to right: ports in two halves, the forwarder (-1) between them. Beyond a few ENodes a line is a port. All have their place in the picture's width.
 function linesOf(some) {
     const used = [...new Set(some.filter(it => it.line >= 0).map(it => it.line))].sort((a, b) => a - b), ports = used.map(it => page.lines[it][0]);
-    const isByPort = used.length > LINES, key = line => isByPort ? page.lines[line][0] : line, keys = [...new Set(used.map(key))];
+    const room = Math.max($("picture").clientWidth - 20, ROOM) - LEFT, columnOf = count => Math.min(COLUMN, Math.floor(room / count));
+    const isByPort = used.length > LINES || columnOf(used.length + 1) < NAMED, key = line => isByPort ? page.lines[line][0] : line, keys = [...new Set(used.map(key))];
     const portOf = it => isByPort ? it : page.lines[it][0], all = [...new Set(ports)].sort((a, b) => a - b), half = all[Math.ceil(all.length / 2) - 1];
     keys.sort((a, b) => portOf(a) - portOf(b) || a - b);
     const left = all.length > 1 ? keys.filter(it => portOf(it) <= half) : keys.slice(0, Math.ceil(keys.length / 2));
     const order = [...left.reverse(), -1, ...keys.filter(it => !left.includes(it))];
-    const titles = order.map(it => it < 0 ? ["forwarder", ""] : isByPort ? ["port " + it, ""] : ["port " + page.lines[it][0] + " · " + page.lines[it][1], page.lines[it][2]]);
-    const place = new Map(order.map((it, at) => [it, LEFT + COLUMN / 2 + COLUMN * at]));
-    return { order, titles, xOf: line => place.get(line < 0 ? -1 : key(line)), width: LEFT + COLUMN * order.length };
+    const column = columnOf(order.length), place = new Map(order.map((it, at) => [it, LEFT + column / 2 + column * at]));
+    return { order, titles: titlesOf(order, isByPort, column), column, xAt: at => LEFT + column / 2 + column * at, xOf: line => place.get(line < 0 ? -1 : key(line)), width: LEFT + column * order.length };
 }
 
 function headsOf(lines) {
-    const made = drawn("svg", { id: "heads", width: lines.width, height: 44, "aria-hidden": "true" });
-    lines.titles.forEach(([title, name], at) => {
-        const x = LEFT + COLUMN / 2 + COLUMN * at;
-        made.append(drawn("text", { x, y: 18, "text-anchor": "middle", "font-weight": "bold" }, title), drawn("text", { x, y: 34, "text-anchor": "middle", class: "soft" }, name));
+    const height = 10 + 16 * Math.max(...lines.titles.map(it => it.length)), style = lines.column < 60 ? "font-size: 9px" : "font-weight: bold";
+    const made = drawn("svg", { id: "heads", width: lines.width, height, "aria-hidden": "true" });
+    lines.titles.forEach(([title, ...more], at) => {
+        const x = lines.xAt(at);
+        made.append(drawn("text", { x, y: 18, "text-anchor": "middle", style }, title));
+        more.forEach((it, row) => made.append(drawn("text", { x, y: 34 + 16 * row, "text-anchor": "middle", class: "soft" }, it)));
     });
     return made;
 }
@@ -83,7 +91,7 @@ function tickOf(it, y, lines) {
 function lineOf(it, y, lines) {
     const word = it.why.split(" ")[0], kind = word ? ["dropped", "rejected", "refused"].includes(word) ? word : "taken" : it.isInward ? "taken" : "sent";
     const [from, to] = it.isInward ? [lines.xOf(it.line), lines.xOf(-1)] : [lines.xOf(-1), lines.xOf(it.line)], back = to > from ? -8 : 8;
-    const made = drawn("g", { class: "arrow " + kind }), middle = lines.xOf(-1) + (lines.xOf(it.line) > lines.xOf(-1) ? COLUMN / 2 : -COLUMN / 2);
+    const made = drawn("g", { class: "arrow " + kind }), middle = lines.xOf(-1) + (lines.xOf(it.line) > lines.xOf(-1) ? lines.column / 2 : -lines.column / 2);
     const text = it.text + (it.count > 1 ? " ×" + it.count : "") + (it.why ? " · " + it.why : "");
     made.append(drawn("line", { x1: from, x2: to, y1: y, y2: y }), drawn("path", { d: `M${to + back} ${y - 4} L${to} ${y} L${to + back} ${y + 4} z`, fill: "currentColor" }));
     made.append(drawn("text", { x: middle, y: y - 5, "text-anchor": "middle" }, text));
@@ -107,7 +115,7 @@ function clockText(behind) {
 function bodyOf(some, lines) {
     const height = STEP * (some.length + 2), made = drawn("svg", { width: lines.width, height, role: "img", "aria-label": "Ladder of " + some.length + " arrows: the frames of the table above" });
     lines.order.forEach((it, at) => {
-        const x = LEFT + COLUMN / 2 + COLUMN * at;
+        const x = lines.xAt(at);
         made.append(drawn("line", { x1: x, x2: x, y1: 0, y2: height - STEP / 2, class: it < 0 ? "lifeline forwarder" : "lifeline" }));
     });
     some.forEach((it, at) => {
