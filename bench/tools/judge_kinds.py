@@ -16,6 +16,7 @@ sys.path[:0] = [str(HERE), str(HERE.parent / "cases"), str(HERE.parent / "progra
 # pylint: disable=wrong-import-position
 import kinds_of_commands  # pylint: disable=unused-import
 import kinds_of_forms  # pylint: disable=unused-import
+import kinds_of_mirrors  # pylint: disable=unused-import
 from fcoe.answers import views
 from fcoe.errors import Refused
 from fcoe.runs.inputs import Options

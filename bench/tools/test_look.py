@@ -1,9 +1,11 @@
 """tools/look and the tools beside it over a folder of small captures (look_captures.py)."""
+import bz2
 import csv
 import fcntl
 import hashlib
 import io
 import json
+import lzma
 import os
 import pathlib
 import re
@@ -134,6 +136,14 @@ class Cases(Base):
         wanted = told(self.json("logins", "--quiet", "one.pcap"))
         for words in (["one.pcap.gz"], ["one.pcapng.gz"], ["one.pcapng"], ["--vlan", "100", "vlan_interface.pcap"]):
             self.assertEqual(told(self.json("logins", "--quiet", *words)), wanted, words)
+        plain = (self.folder / "one.pcap").read_bytes()
+        (self.folder / "one.bz2").write_bytes(bz2.compress(plain))
+        (self.folder / "one.xz").write_bytes(lzma.compress(plain))
+        packers = [it for it in ("zstd", "lz4") if shutil.which(it)]
+        for it in packers:
+            subprocess.run([it, "-q", "-f", "one.pcap", *(["-o"] if it == "zstd" else []), f"one.{it}"], cwd=self.folder, check=True, capture_output=True)
+        for it in ("bz2", "xz", *packers):
+            self.assertEqual(told(self.json("logins", "--quiet", f"one.{it}")), wanted, it)
         host = told(self.json("logins", "--quiet", PAIR[0]))
         self.assertEqual(told(self.json("logins", "--quiet", "big_endian.pcap")), host)
         self.assertEqual(told(self.json("logins", "--quiet", "back.pcap")), host)

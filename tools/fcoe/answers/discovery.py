@@ -3,7 +3,9 @@ from typing import Callable, Optional
 
 from ..errors import counted
 from ..frames.heard import colons
+from ..frames.lldp import OFFER, without_fcoe
 from ..runs.enodes import ASKED, FALLBACK, SOLICITED, TALKED, Seen
+from ..runs.inputs import dcbx_of
 from .answer import About, Answer, Severity, times
 from .rivals import PART, rivals_on, switch_text
 
@@ -114,12 +116,20 @@ def not_advertised_to(seen: Seen) -> Optional[Answer]:
     return failed(seen, f"{said} in VLAN {vlans}, no advertisement came", "is FCoE on in that VLAN at the switch, and its VSAN or fabric up?", solicited)
 
 
+def not_offered(seen: Seen) -> str:
+    """That the port of the switch offers no FCoE by its DCBX; empty where it doesn't say so."""
+    return without_fcoe([it for it in dcbx_of([seen.enode.port]) if it.source != seen.enode.mac])
+
+
 def unanswered(seen: Seen) -> Optional[Answer]:
     """Nothing that it sent is answered."""
     asked, solicited, fallback = (seen.enode.all(it) for it in (ASKED, SOLICITED, FALLBACK))
     if seen.answered(ASKED, SOLICITED):
         return None
     step = f"{NO_FIP} {ONE_WAY[0].upper()}{ONE_WAY[1:]}"
+    lacking = not_offered(seen)
+    if lacking and (asked or solicited):
+        return failed(seen, f"{'asked for VLANs' if asked else 'solicited'} {times(len(asked or solicited))}, nobody answered: {lacking}", OFFER, asked or solicited)
     if asked:
         return failed(seen, f"asked for VLANs {times(len(asked))}, nobody answered: FIP doesn't reach the switch", step, asked)
     if solicited:

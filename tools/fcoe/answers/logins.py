@@ -318,7 +318,8 @@ def again(look: Look, told: set[tuple[int, bytes]]) -> Iterator[Answer]:
         groups.setdefault((it.port, it.name), []).append(it)
     for (port, name), logins in groups.items():
         if not is_used(look, logins[0]):
-            yield unused(look, logins)
+            if look.captured[port - 1].replies:
+                yield unused(look, logins)
             continue
         text = f"logged in again {times(len(logins))} without a LOGO: {'it' if len(logins) == 1 else 'each'} ends the login before, and those of its further N_Ports"
         step = "the host's log at that time: its link went down and up, or its driver began anew"

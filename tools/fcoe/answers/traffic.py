@@ -220,7 +220,7 @@ def drop_text(it: Drops) -> tuple[Severity, str, str]:
     if rule in OUTSIDE:
         return Severity.NOTED, f"{count}{from_to} ({it.heard.kind}), {meaning_of(it.verdict)}: what a switch does with them isn't judged here", ""
     if it.verdict == CUT:
-        return Severity.NOTED, f"{count} cut by the capture (snap length): what they say isn't judged, and where logins are among them nothing that hangs on these", "capture whole frames: `tcpdump -s 0`"
+        return Severity.NOTED, f"{count} cut by the capture (snap length) or by a mirror: what they say isn't judged, and where logins are among them nothing that hangs on these", "capture whole frames: `tcpdump -s 0`; a mirror without truncation"
     if it.is_older:
         return Severity.NOTED, f"{count} of a login that is older than the capture (keep alives)", "begin the capture before the host logs in"
     if it.verdict in ("dropped dest-login", "dropped keepalive-unknown"):

@@ -130,6 +130,7 @@ class Frames:
     told: Optional["array[int]"] = None  # the places of messages, once they were asked for
     alike: Optional[list[Heard]] = None  # the first of each other frames that are alike, once they were asked for
     size: int = 0  # bytes of all frames, while they are read
+    is_mirror_cut: bool = False  # frames are cut by a mirror, which doesn't tell how long they were
 
     def __len__(self) -> int:
         return len(self.moments)
@@ -264,4 +265,4 @@ class Frames:
         numbers = array("I", (self.number(at) for at in chosen))
         interfaces = some("I", self.interfaces) if self.interfaces else ()
         columns = (some("q", self.moments), some("Q", self.places), some("I", self.sizes), some("I", self.lengths), some("I", self.flow_of))
-        return Frames(self.source, *columns, self.flows, numbers, interfaces)
+        return Frames(self.source, *columns, self.flows, numbers, interfaces, is_mirror_cut=self.is_mirror_cut)

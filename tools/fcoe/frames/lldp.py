@@ -6,6 +6,7 @@ from .heard import FCOE_TYPE, FIP_TYPE, colons, number
 
 LLDP_TYPE = 0x88CC
 IEEE, CEE = bytes.fromhex("0080c2"), bytes.fromhex("001b21")
+OFFER = "let that port of the switch offer FCoE (its DCBX application TLV for 8906 and 8914, its FCoE class)"
 NAMES = {FCOE_TYPE: "FCoE", FIP_TYPE: "FIP", 3260: "iSCSI", 4420: "NVMe/TCP", 4791: "RoCEv2", 0x8915: "RoCE", 860: "iSCSI (860)"}
 
 

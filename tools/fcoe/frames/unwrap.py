@@ -1,4 +1,6 @@
 """FIP and FCoE inside something else: mirrors that travel (ERSPAN, GRE, VXLAN, Geneve), further tags (802.1ad, VN-Tag), MPLS, LLC/SNAP."""
+from collections import Counter
+from dataclasses import dataclass
 from typing import Callable, Iterator, Optional
 
 from .columns import Frames, Record
@@ -10,8 +12,11 @@ GRE, UDP = 47, 17
 BRIDGED, ERSPAN, ERSPAN_III = 0x6558, 0x88BE, 0x22EB  # protocols of GRE
 VXLAN_PORTS, GENEVE_PORT = (4789, 4790, 8472), 6081
 SNAP = bytes.fromhex("aaaa03000000")
+CUT = 0x0400  # bit T of ERSPAN: the mirror cut the frame
+LONGEST = 2176  # bytes of an FCoE frame with a tag; one that a mirror cut may have had so many
 LAYERS = 6  # that are unwrapped at most
 Inner = Optional[tuple[str, bytes]]  # what was around it, and the Ethernet frame inside
+BY_MIRROR = ", cut"  # behind what was around a frame that its mirror cut
 
 
 def is_fabric(data: bytes) -> bool:
@@ -28,10 +33,11 @@ def in_gre(body: bytes) -> Inner:
     at = 4 + sum(4 for bit in (0x8000, 0x2000, 0x1000) if flags & bit)  # check sum, key, sequence number
     if protocol == BRIDGED:
         return "GRE", body[at:]
+    cut = BY_MIRROR if number(body[at + 2 : at + 4]) & CUT else ""
     if protocol == ERSPAN:
-        return ("ERSPAN II", body[at + 8 :]) if flags & 0x1000 else ("ERSPAN I", body[at:])
+        return ("ERSPAN II" + cut, body[at + 8 :]) if flags & 0x1000 else ("ERSPAN I", body[at:])
     if protocol == ERSPAN_III and len(body) > at + 12:
-        return "ERSPAN III", body[at + 12 + (8 if body[at + 11] & 1 else 0) :]
+        return "ERSPAN III" + cut, body[at + 12 + (8 if body[at + 11] & 1 else 0) :]
     return None
 
 
@@ -86,8 +92,17 @@ def peeled(data: bytes) -> Inner:
     return in_mpls(data[at:]) if kind in MPLS else None
 
 
-def inside(data: bytes) -> Inner:
-    """The FIP or FCoE frame inside a frame, and what is around it; none where there is nothing around it, or nothing inside."""
+@dataclass(frozen=True)
+class Inside:
+    """The FIP or FCoE frame inside a frame, and what is around it."""
+
+    around: str
+    data: bytes
+    is_cut: bool  # by the mirror
+
+
+def inside(data: bytes) -> Optional[Inside]:
+    """None where there is nothing around a frame, or nothing inside."""
     around: list[str] = []
     while len(around) < LAYERS and not is_fabric(data):
         found = peeled(data)
@@ -95,7 +110,10 @@ def inside(data: bytes) -> Inner:
             return None
         around.append(found[0])
         data = found[1]
-    return (" in ".join(reversed(around)), data) if around and is_fabric(data) and len(data) >= 14 else None
+    if not around or not is_fabric(data) or len(data) < 14:
+        return None
+    words = [it.removesuffix(BY_MIRROR) for it in reversed(around)]
+    return Inside(" in ".join(words), data, any(it.endswith(BY_MIRROR) for it in around))
 
 
 def may_wrap(data: bytes) -> bool:
@@ -110,11 +128,13 @@ def unwrapped(frames: Frames, rewrite: Callable[[Frames, Iterator[Record]], Fram
     wrapping = [may_wrap(it.heard.data) for it in frames.flows]
     if not any(wrapping):
         return frames, []
-    counts: dict[str, int] = {}
+    counts: Counter[str] = Counter()
+    cut = 0
     for at, flow in enumerate(frames.flow_of):
         found = inside(frames.data(at)) if wrapping[flow] else None
         if found is not None:
-            counts[found[0]] = counts.get(found[0], 0) + 1
+            counts[found.around] += 1
+            cut += found.is_cut
     if not counts:
         return frames, []
 
@@ -123,8 +143,11 @@ def unwrapped(frames: Frames, rewrite: Callable[[Frames, Iterator[Record]], Fram
             record = frames.record(at)
             found = inside(record.data) if wrapping[flow] else None
             if found is not None:
-                record.length = max(record.length - len(record.data), 0) + len(found[1])
-                record.data = found[1]
+                whole = max(record.length - len(record.data), 0) + len(found.data)
+                record.length = max(whole, LONGEST) if found.is_cut else whole
+                record.data = found.data
             yield record
 
-    return rewrite(frames, records()), [f"{count:,} frames of FIP and FCoE stand in {around}: they are taken out of it" for around, count in sorted(counts.items())]
+    made = rewrite(frames, records())
+    made.is_mirror_cut = cut > 0
+    return made, [f"{count:,} frames of FIP and FCoE stand in {around}: they are taken out of it" for around, count in sorted(counts.items())]

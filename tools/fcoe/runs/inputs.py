@@ -11,7 +11,7 @@ from typing import Iterator, Optional, Sequence
 from ..errors import Refused, counted
 from ..files import text_of
 from ..frames.codes import in_words
-from ..frames.lldp import LLDP_TYPE, Told, told_in, without_fcoe
+from ..frames.lldp import LLDP_TYPE, OFFER, Told, told_in, without_fcoe
 from ..frames.unwrap import unwrapped
 from ..frames.captures import Capture, classic, read_capture, write_classic
 from ..frames.columns import Frames, Listed, Record
@@ -119,7 +119,8 @@ def remarks_on(port: Port) -> list[str]:
         said.append(f"{port.label}: times go back {counted(len(back), 'time')} (first at frame {frames.number(back[0])}): a frame counts at the latest time so far; `reordercap` sorts a capture")
     short = [at for at, (size, length) in enumerate(zip(frames.sizes, frames.lengths)) if length > size]
     if short:
-        said.append(f"{port.label}: {counted(len(short), 'frame')} cut by the snap length (first: frame {frames.number(short[0])}): capture with `-s 0`")
+        who, step = ("mirror", "take the truncation (`mtu`) out of its session") if frames.is_mirror_cut else ("snap length", "capture with `-s 0`")
+        said.append(f"{port.label}: {counted(len(short), 'frame')} cut by the {who} (first: frame {frames.number(short[0])}): {step}")
     return said
 
 
@@ -258,7 +259,7 @@ def without_fabric(name: str, ports: list[Port]) -> str:
     """Why nothing can be looked at in captures without FIP and FCoE, and what to do next."""
     lacking = without_fcoe(dcbx_of(ports))
     if lacking:
-        return f"{name}: neither FIP nor FCoE frames (Ethertypes 8914, 8906), and {lacking}: let that port of the switch offer FCoE (its DCBX application TLV for 8906 and 8914, its FCoE class), since hosts send nothing before that"
+        return f"{name}: neither FIP nor FCoE frames (Ethertypes 8914, 8906), and {lacking}: {OFFER}, since hosts send nothing before that"
     return f"{name}: neither FIP nor FCoE frames (Ethertypes 8914, 8906): capture on the host's converged port, `tcpdump -i eth0 -s 0 -w FILE`"
 
 
