@@ -156,11 +156,10 @@ class Page(Base):
         sums = [it for it in wanted["sums"] if it["kind"] == "FCP" and it["median_ns"] is not None]
         marks, plotted = self.run_in(PLOT)
         self.assertEqual([(it[0], int(it[2])) for it in plotted], [(f"{it['command']} LUN {it['lun']}", it["count"]) for it in sums])
-        scale = dict(marks)
-        decade = (scale["1 s"] - scale["1 us"]) / 6
-        for (*_, begin, end, last), it in zip(plotted, sums):
-            for place, time_ in ((begin, it["median_ns"]), (last, it["greatest_ns"]), (end, it["p99_ns"])):
-                self.assertAlmostEqual(place, scale["1 us"] + decade * math.log10(max(time_, 1000) / 1000), delta=5, msg=str(it))
+        begin, end = dict(marks)["1 us"], dict(marks)["1 s"]
+        for row, it in zip(plotted, sums):
+            wanted = [begin + (end - begin) / 6 * math.log10(max(it[name], 1000) / 1000) for name in ("median_ns", "p99_ns", "greatest_ns")]
+            self.assertTrue(all(abs(one - other) < 5 for one, other in zip(row[3:], wanted)), (row, wanted))
 
     def picture(self, name: str, words: str) -> None:
         for part, where in enumerate(("", "frames", "ladder"), 1):

@@ -218,12 +218,63 @@ class Files(Base):
                 made = self.said("zones", "--quiet", *words, *vsan, "--to", vendor, "--from", name)
                 self.assertEqual(pairs_of(self.said("zones", "--quiet", "--from", self.file("back.txt", made))), wanted, (name, vendor))
 
+    def commands(self, vendor: str, text: str) -> str:
+        """A zoning as a vendor's commands."""
+        return self.said("zones", "--quiet", *(["--vsan", "7"] if vendor == "nxos" else []), "--to", vendor, "--from", self.file("way.txt", text))
+
+    def test_roles_there_and_back(self) -> None:
+        """Roles survive each way: a principal is a target, the storage, and comes back as a principal; a smart zone comes back as one."""
+        for text, first, other in ((forms.PEER_AND_MORE, "fos", "nxos"), (forms.SMART_ZONE, "nxos", "fos")):
+            made, there = self.commands(first, text), self.commands(other, text)
+            self.assertEqual(self.commands(other, made), there)
+            self.assertEqual(self.commands(first, made), made)
+            self.assertEqual(sorted(self.commands(first, there).splitlines()), sorted(made.splitlines()))
+        self.assertIn('-principal "50:06:01:60:3b:20:11:aa" -members "10:00:00:90:fa:11:22:01; 10:00:00:90:fa:11:22:02"', self.commands("fos", forms.SMART_ZONE))
+        self.assertIn("  member pwwn 50:06:01:60:3b:20:11:aa target\n  member pwwn 10:00:00:90:fa:11:22:01 init\n", self.commands("nxos", forms.PEER_AND_MORE))
+
+    def test_defined_and_active(self) -> None:
+        """That the defined zone set and the active one differ is said, by zones and by members; where they are the same nothing is."""
+        file = self.file("prod.txt", forms.PEER_AND_MORE)
+        self.assertIn("PROD: the defined zone set and the active one differ, defined alone: esx02_a, tape: activating it would change that", self.call("zones", "--from", file).stderr)
+        less = forms.PEER_AND_MORE.replace("; esx02_a; peer1; tape", "; peer1")
+        self.assertNotIn("differ", self.call("zones", "--from", self.file("same.txt", less)).stderr)
+        moved = less.replace(" zone:\tesx01_a\n\t\t10:00:00:90:fa:11:22:01", " zone:\tesx01_a\n\t\t10:00:00:90:fa:11:22:02")
+        self.assertIn("differ, with other members: esx01_a:", self.call("zones", "--from", self.file("moved.txt", moved)).stderr)
+        gone = less.replace("esx01_a; peer1", "peer1")
+        self.assertIn("differ, active alone: esx01_a:", self.call("zones", "--from", self.file("gone.txt", gone)).stderr)
+
+    def test_names_of_the_whole_file(self) -> None:
+        """Aliases of the defined zoning name the WWNs of the active one, and whoever is in none of its zones."""
+        file = self.file("prod.txt", forms.PEER_AND_MORE)
+        said = self.said("look", "why", "not", "esx01", "ARRAY1", "--quiet", "--zoning", file)
+        self.assertIn("reach each other where both are logged in: zone esx01_a, peer1", said)
+        said = self.said("look", "why", "not", "esx02", "tape_0", "--quiet", "--zoning", file)
+        self.assertIn("no zone of PROD has both: 10:00:00:90:fa:11:22:02 is in peer1; 50:01:04:f0:00:00:00:01 is in no zone", said)
+        rows = json.loads(self.said("look", "reach", "--json", "--quiet", "--zoning", file))["ports"]
+        self.assertEqual([it["called"] for it in rows], [["esx01"], ["esx02"], ["array1"]])
+
+    def test_zones_of_a_pair(self) -> None:
+        """What becomes of a zone whose members don't all reach each other is said by its count."""
+        for text, words in (
+            (forms.PEER_AND_MORE, "zone peer1: its members don't all reach each other: 2 zones of a pair each"),
+            (forms.SMART_ZONE.replace("    pwwn 10:00:00:90:fa:11:22:02 init\n", "    pwwn 50:06:01:60:3b:20:11:ab target\n"), "zone z1: its members don't all reach each other: 2 zones of a pair each"),
+        ):
+            self.assertIn(words, self.call("zones", "--from", self.file("pairs.txt", text)).stderr)
+        ran = self.call("zones", "--from", self.file("pair.txt", forms.SMART_ZONE.replace("    pwwn 10:00:00:90:fa:11:22:02 init\n", "")))
+        self.assertNotIn("reach each other", ran.stderr)
+        self.assertEqual(pairs_of(ran.stdout), among(["10:00:00:90:fa:11:22:01", "50:06:01:60:3b:20:11:aa"]))
+
     def test_other_switches(self) -> None:
         """Forms that aren't read are refused by name, with the plain lines that are; so is none of them in part."""
         for name, (whose, text) in forms.OTHERS.items():
             said = self.refused("zones", "--from", self.file(name, text))
             self.assertIn(whose, said, name)
             self.assertIn("zone NAME WWPN WWPN ..", said, name)
+        for before in ("mds# show zoneset active vsan 400 | json\n", "$ curl -k -i https://sw0/rest/running\nHTTP/1.1 200 OK\nContent-Type: application/json\n\n"):
+            for name in ("nxos.json", "fos_rest.json"):
+                said = self.refused("zones", "--from", self.file("log.txt", before + forms.OTHERS[name][1] + "mds#\n"))
+                self.assertIn("JSON or XML of a REST interface", said, (before, name))
+                self.assertIn("zone NAME WWPN WWPN ..", said, name)
 
     def test_members_of_other_vsans(self) -> None:
         """A member of another VSAN is one like the others, and that is said."""

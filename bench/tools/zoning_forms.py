@@ -260,6 +260,40 @@ zoning enabled-configuration cfg-name prod
 """,
     ),
 }
+# a peer zone, an alias in no zone, and an effective configuration that isn't the defined one
+PEER_AND_MORE = """sw0:admin> cfgshow
+Defined configuration:
+ cfg:\tPROD\tesx01_a; esx02_a; peer1; tape
+ zone:\tesx01_a\tesx01; array1
+ zone:\tesx02_a\tesx02; array1
+ zone:\tpeer1\t00:02:00:00:00:03:00:01; array1; esx01; esx02
+ zone:\ttape\tesx01; tape_0
+ alias:\tesx01\t10:00:00:90:fa:11:22:01
+ alias:\tesx02\t10:00:00:90:fa:11:22:02
+ alias:\tarray1\t50:06:01:60:3b:20:11:aa
+ alias:\ttape_0\t50:01:04:f0:00:00:00:01
+
+Effective configuration:
+ cfg:\tPROD
+ zone:\tesx01_a
+\t\t10:00:00:90:fa:11:22:01
+\t\t50:06:01:60:3b:20:11:aa
+ zone:\tpeer1
+\t\t00:02:00:00:00:03:00:01
+\t\t50:06:01:60:3b:20:11:aa
+\t\t10:00:00:90:fa:11:22:01
+\t\t10:00:00:90:fa:11:22:02
+
+sw0:admin>
+"""
+SMART_ZONE = """mds# show zoneset active vsan 7
+zoneset name act vsan 7
+  zone name z1 vsan 7
+  * fcid 0x650040 [pwwn 10:00:00:90:fa:11:22:01] init
+    pwwn 10:00:00:90:fa:11:22:02 init
+    pwwn 50:06:01:60:3b:20:11:aa target
+mds#
+"""
 IVR = """mds# show zoneset active vsan 400
 zoneset name across vsan 400
   zone name IVRZ_esx vsan 400

@@ -109,7 +109,8 @@ def rests_of(port: Port, least: int) -> list[Rest]:
     if not clocks:
         return [(BEFORE, BEHIND)]
     long = least * MILLISECOND - MILLISECOND  # in whole milliseconds it may be long enough
-    places = [at for at, (one, other) in enumerate(zip(accumulate(moments, max), islice(moments, 1, None)), 1) if other - one > long]
+    latest: Iterator[int] = accumulate(moments, max)
+    places = [at for at, (one, other) in enumerate(zip(latest, islice(moments, 1, None)), 1) if other - one > long]
     inner = [((max(moments[:at]) // MILLISECOND, port.number, at - 1), (moments[at] // MILLISECOND, port.number, at)) for at in places]
     return [(BEFORE, (clocks[0], port.number, 0)), *inner, ((clocks[1], port.number, len(moments) - 1), BEHIND)]
 

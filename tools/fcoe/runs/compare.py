@@ -470,9 +470,9 @@ def mark_followers(run: Run, walk: Walk, found: Comparison) -> None:
             it.follows = next((causes[login.granted_frame] for login in walk.fabric.logins if names and login.name == names[0] and login.granted_frame in causes), None)
     for login in walk.fabric.logins if causes else ():
         cause = causes.get(login.granted_frame)
-        names = (fcid(login.address),) if login.is_fdisc else (fcid(login.address), colons(login.enode))
+        about = (fcid(login.address),) if login.is_fdisc else (fcid(login.address), colons(login.enode))
         for it in found.notices if cause else ():
-            if it.switch == "missing" and it.request.endswith(names) and login.since <= it.clock <= (login.until or it.clock):
+            if it.switch == "missing" and it.request.endswith(about) and login.since <= it.clock <= (login.until or it.clock):
                 it.follows = cause
 
 

@@ -262,7 +262,8 @@ def moved_flows(port: Port, mapping: Mapping, fc_maps: FcMaps) -> list[Optional[
 def moved_frames(port: Port, messages: dict[int, bytes], flows: list[Optional[MovedFlow]]) -> Iterator[bytes]:
     """The frames of a port with other addresses."""
     frames, take = port.frames, port.frames.source.take
-    columns = zip(frames.flow_of, accumulate(frames.moments, max), frames.places, frames.sizes, frames.lengths)
+    latest: Iterator[int] = accumulate(frames.moments, max)
+    columns = zip(frames.flow_of, latest, frames.places, frames.sizes, frames.lengths)
     for at, (flow, greatest, place, size, length) in enumerate(columns):
         moving = flows[flow]
         if moving is not None and size == length:

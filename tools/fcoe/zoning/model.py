@@ -218,6 +218,7 @@ class Plan:
     name: Optional[str]
     zones: list[Joined]
     about: str = ""
+    names: dict[str, tuple[str, ...]] = field(default_factory=dict)  # of WWPNs by all aliases of the files, also of those that are in no zone
 
     def pairs(self) -> dict[Pair, list[str]]:
         """Who reaches whom, and the zones that join them."""

@@ -37,7 +37,7 @@ def pair_rows(plan: Plan, names: list[str]) -> list[Row]:
 def known_names(look: Optional[Look], plan: Plan) -> dict[str, str]:
     """WWPNs by what a user may call them: the WWPN, an alias, an address."""
     found = {it: it for it in plan.zones_of()}
-    for wwpn, names in plan.called().items():
+    for wwpn, names in [*plan.names.items(), *plan.called().items()]:
         found.update({it.lower(): wwpn for it in names})
     for login in look.walk.fabric.logins if look else []:
         found.update({colons(login.name): colons(login.name), fcid(login.address): colons(login.name)})

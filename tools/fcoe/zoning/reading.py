@@ -15,13 +15,14 @@ SIGNS: dict[Vendor, "re.Pattern[str]"] = {
     Vendor.CONFIG: re.compile(r"^(fcf-mac|zone\s+(?!name\b)\S+\s+(?:[0-9a-f]{2}:){7}|vlan\s+\d+$)", re.I),
 }
 READERS: dict[Vendor, Callable[[list[Line]], Reading]] = {Vendor.NXOS: read_nxos, Vendor.FOS: read_fos, Vendor.CONFIG: read_config_zones}
-SHAPES = "`show zoneset active`, `show zone`, `show running-config zone`, `show device-alias database`, `show fcalias` (NX-OS), `cfgshow`, `zoneshow`, `alishow`, `cfgactvshow` (FOS), or plain lines `zone NAME WWPN WWPN ..`, to which any other switch's can be brought"
-
+SHAPES = "`show zoneset active`, `show zone`, `show running-config zone`, `show device-alias database`, `show fcalias` (NX-OS), `cfgshow`, `zoneshow`, `alishow` (FOS), or plain lines `zone NAME WWPN WWPN ..`, to which any other switch's can be brought"
 
 PLAIN = "bring it to plain lines, `zone NAME WWPN WWPN ..`, one a zone (docs/ZONES.md)"
+PACKED = "JSON or XML of a REST interface or of `| json`, which isn't read: give the text of `cfgshow` (FOS) or of `show zoneset active` (NX-OS), which has the roles of members too, or"
+IN_A_LOG = re.compile(r'^\s*(?:\{\s*(?:"|$)|\[\s*(?:[{"]|$)|<\?xml\b|HTTP/\d)', re.M)  # JSON or XML behind a command
 # forms that aren't read, by what stands in them
 OTHERS: list[tuple["re.Pattern[str]", str]] = [
-    (re.compile(r"\A\s*[\[{]|\A\s*<\?xml"), "JSON or XML of a REST interface or of `| json`, which isn't read: give the text of `cfgshow` (FOS) or of `show zoneset active` (NX-OS), which has the roles of members too, or"),
+    (re.compile(r"\A\s*[\[{]|\A\s*<\?xml"), PACKED),
     (re.compile(r"^<[\w.-]+>\s*dis\w*\s|^\s*zoneset\s+(?!name\b|activate\b|distribute\b|overwrite|capture)\S+\s*\n\s+zone\s+(?!name\b)\S+\s*$", re.M), "the zoning of Comware (`display zoneset active`), which isn't read:"),
     (re.compile(r"^Active Zoneset\s*:|^ZoneName\s+ZoneMember|show fc (?:zone|alias)", re.M | re.I), "the zoning of Dell FTOS (`show fc zoneset active`), which isn't read:"),
     (re.compile(r"^\s*zoning (?:defined|enabled)-configuration\b", re.M), "the zoning of VDX (`show running-config zoning`), which isn't read:"),
@@ -30,17 +31,17 @@ OTHERS: list[tuple["re.Pattern[str]", str]] = [
 ]
 
 
-def refuse_others(name: str, lines: list[Line]) -> None:
+def refuse_others(name: str, lines: list[Line], others: list[tuple["re.Pattern[str]", str]]) -> None:
     """Refuses forms that aren't read, each with the way to one that is."""
     text = "\n".join(it.text for it in lines)
-    for sign, what in OTHERS:
+    for sign, what in others:
         if sign.search(text):
             raise Refused(f"{name}: {what} {PLAIN}")
 
 
 def vendor_of(name: str, lines: list[Line]) -> Vendor:
     """Whose words a file has."""
-    refuse_others(name, lines)
+    refuse_others(name, lines, OTHERS)
     found: dict[Vendor, Line] = {}
     for line in lines:
         text = (line.command if line.is_prompt else line.text).strip()
@@ -51,6 +52,7 @@ def vendor_of(name: str, lines: list[Line]) -> Vendor:
         places = " and of ".join(f"{vendor.value} (line {line.place.line})" for vendor, line in found.items())
         raise Refused(f"{name}: has words of {places}: give each switch's lines in a file of its own")
     if not found:
+        refuse_others(name, lines, [(IN_A_LOG, PACKED)])
         raise Refused(f"{name}: no zoning: it wants the output of {SHAPES}")
     return next(iter(found))
 

@@ -70,8 +70,8 @@ class Resolver:
     known_aliases: dict[tuple[Kind, str, str], list[Ends]] = field(default_factory=dict)  # what they stand for in a zone
     names: Optional[dict[str, tuple[str, ...]]] = None  # the aliases of one WWPN alone, by that, once they were asked for
 
-    def named(self, wwpn: str) -> tuple[str, ...]:
-        """The names of a WWPN by the aliases of all files, for zonings that print WWNs alone (the effective one)."""
+    def named(self) -> dict[str, tuple[str, ...]]:
+        """The names of WWPNs by the aliases of all files, for zonings that print WWNs alone (the effective one)."""
         if self.names is None:
             found: dict[str, dict[str, None]] = {}
             for (_, name), printings in self.zoning.aliases.items():
@@ -79,7 +79,7 @@ class Resolver:
                 if len(members) == 1 and all(it.kind is Kind.WWPN for printing in printings for it in printing.members):
                     found.setdefault(members.pop(), {})[name] = None
             self.names = {own: tuple(names) for own, names in found.items()}
-        return self.names.get(wwpn, ())
+        return self.names
 
     def ends(self, member: Member, zone: str) -> list[Ends]:
         """The WWPNs of a member, or none with a fault."""
@@ -116,7 +116,7 @@ class Resolver:
         if ports:
             self.say(member, f"{member.value} of zone {zone} is the name of a node: its {counted(len(ports), 'port')} {', '.join(ports)} by the logins")
             return [Ends(it, member.role, called) for it in ports]
-        return [Ends(member.value, member.role, called if called or self.under else self.named(member.value))]
+        return [Ends(member.value, member.role, called if called or self.under else self.named().get(member.value, ()))]
 
     def alias_in(self, member: Member, zone: str) -> list[Ends]:
         """What an alias stands for in a zone; nothing where it leads to itself, or too deep."""

@@ -156,7 +156,7 @@ def plan_of(reading: Reading, zoning: Zoning, choice: Choice, known: Known, is_s
     resolver = Resolver(zoning, known, reading.vendor)
     resolver.remarks += apart(zoning) + loose(choice)
     taker = Taker(resolver)
-    plan = Plan(choice.name, [], choice.about)
+    plan = Plan(choice.name, [], choice.about, resolver.named())
     for name in choice.zones:
         if name in choice.database.zones:
             plan.zones.append(taker.zone(choice.database.zones[name]))
