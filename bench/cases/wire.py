@@ -108,7 +108,7 @@ def login_of(kind: int, frame: bytes) -> bytes:
 def login(code: int, port: bytes, node: bytes, features: int = 0x8800, size: int = 2112, times: tuple[int, int] = (0, 2000), class2: bytes = bytes(16)) -> bytes:
     """The 116 bytes of FLOGI, FDISC, PLOGI and of their accepts."""
     common = struct.pack(">HHHHII", 0x2020, 10, features, size, *times)
-    class3 = struct.pack(">HHHHHHHH", 0x8000, 0, 0, size, 0, 255, 0, 1)
+    class3 = struct.pack(">HHHHHHHH", 0x8000, 0, 0, size, 255, 0, 1, 0)  # 255 concurrent sequences, one an exchange
     return bytes([code, 0, 0, 0]) + common + port + node + bytes(16) + class2 + class3 + bytes(32)
 
 

@@ -44,6 +44,10 @@ def outer_tag_of(_: Case, data: bytes) -> bytes:
     return data[:12] + struct.pack(">HH", 0x88A8, 2 << 13 | 900) + data[12:]
 
 
+def with_sequence_of(_: Case, data: bytes) -> bytes:
+    return data + zlib.crc32(data).to_bytes(4, "little")
+
+
 def vn_tag_of(case: Case, data: bytes) -> bytes:
     return data[:12] + struct.pack(">HI", 0x8926, case.lot.randrange(1 << 30)) + data[12:]
 
@@ -90,7 +94,8 @@ def nested(seed: int, folder: Path) -> list[Path]:
 @kind(r"\d+ frames end with the Ethernet check sequence", is_well=True)
 def mirror_with_fcs(seed: int, folder: Path) -> list[Path]:
     """A mirror that travels and keeps the check sequence of the frame inside."""
-    return wrapped(seed, folder, lambda _, data: data + zlib.crc32(data).to_bytes(4, "little"), erspan_of if seed % 2 else vxlan_of)
+    outer: Wrap = erspan_of if seed % 2 else vxlan_of
+    return wrapped(seed, folder, with_sequence_of, outer)
 
 
 @kind(r"\d+ frames end with the Ethernet check sequence", is_well=True)

@@ -1,4 +1,4 @@
-"""What laboratories do to captures: check sequences kept, frames twice, two clocks, a snap length, frames that the tap lost, a late begin."""
+"""What laboratories do to captures: check sequences kept, frames twice, two clocks, a snap length, frames that the tap lost, a late begin, a clock that jumps."""
 import random
 import zlib
 from dataclasses import replace
@@ -75,6 +75,16 @@ def of_hosts(tape: Tape, _: random.Random) -> Tape:
     return numbered([it for it in tape if not is_switch(it, switch)])
 
 
+def jumped(seconds: int) -> Wear:
+    """The clock jumps ahead once, or nothing was captured for so long."""
+
+    def worn(tape: Tape, lot: random.Random) -> Tape:
+        place = lot.randrange(len(tape) // 4, 3 * len(tape) // 4)
+        return [replace(it, moment=it.moment + (seconds * 1_000_000_000 if at >= place else 0)) for at, it in enumerate(tape)]
+
+    return worn
+
+
 WEARS: dict[str, Wear] = {
     "as it is": lambda tape, _: tape,
     "check sequences": with_sequences,
@@ -90,4 +100,5 @@ WEARS: dict[str, Wear] = {
     "begins late": begun_late(0.3),
     "ends early": ended_early(0.6),
     "hosts alone": of_hosts,
+    "an hour's jump": jumped(3600),
 }

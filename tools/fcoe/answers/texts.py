@@ -1,7 +1,8 @@
 """Views as text: what a person reads in a terminal."""
+from collections import Counter
 from dataclasses import dataclass
 from itertools import accumulate
-from typing import Any, Collection, Iterable, Optional
+from typing import Any, Callable, Collection, Iterable, Optional
 
 from ..frames.codes import spelled, type_text
 from ..frames.places import text_of
@@ -16,6 +17,11 @@ LISTED = 12  # rows of one kind that a terminal shows
 SUMMARISED = 30  # logins that the summary shows
 ANSWERED = 5  # answers that stand on top
 UNGRANTED = ("rejected", "no answer")
+# frames of switches that are beside no answer here, in words
+BESIDE: dict[str, Callable[[Comparison], "Counter[str]"]] = {
+    "Frames of the switch that fit no request, by OX_ID and addresses": lambda it: it.others,
+    "Frames of further switches or VLANs, which are beside nothing here": lambda it: it.elsewhere,
+}
 COLOURS = {"failed": Colour.BAD, "blocked": Colour.BAD, "lost": Colour.BAD, "dropped": Colour.MIND, "different": Colour.MIND, "well": Colour.GOOD}
 
 
@@ -225,9 +231,8 @@ def compare_text(found: Optional[Comparison], first: int, is_short: bool = False
     lines += [f" `look compare` has each of them, field by field: {' and '.join(beyond)}"] if beyond else []
     if found.forwarded:
         lines.append(" Data frames: " + ", ".join(f"{count} {word}" for word, count in found.forwarded.most_common()))
-    if found.others:
-        lines.append(" Further frames of the switch, which answer no request of these captures: " + ", ".join(f"{count} {word}" for word, count in found.others.most_common(6)))
-    return lines
+    beside = {words: counts_of(found) for words, counts_of in BESIDE.items()}
+    return lines + [f" {words}: " + ", ".join(f"{count} {word}" for word, count in counts.most_common(6)) for words, counts in beside.items() if counts]
 
 
 def compare_json(found: Optional[Comparison]) -> Any:
@@ -237,7 +242,7 @@ def compare_json(found: Optional[Comparison]) -> Any:
     for it in found.all():
         differences = [{"field": d.field, "switch": d.switch, "forwarder": d.forwarder, "why": d.note or None} for d in it.differences]
         rows.append({"port": it.port, "frame": it.frame, "clock": it.clock, "request": it.request, "switch": it.switch, "forwarder": it.forwarder, "state": it.state, "differences": differences})
-    return {"totals": dict(totals(found)), "answers": rows, "forwarded": dict(found.forwarded), "others": dict(found.others)}
+    return {"totals": dict(totals(found)), "answers": rows, "forwarded": dict(found.forwarded), "others": dict(found.others), "elsewhere": dict(found.elsewhere)}
 
 
 def titled(title: str, lines: list[str]) -> list[str]:

@@ -118,6 +118,11 @@ def holder_of(look: Look, asked: Asked) -> Optional[str]:
     return holder_text(look, names[0], look.request_of(asked.entry.port, asked.entry.index), asked.entry.clock)
 
 
+def here(step: str) -> str:
+    """A step as this view says it, which is itself what others send to."""
+    return step.replace(": `look why`", "").replace(" (`look why`)", "")
+
+
 def why_of(look: Look, asked: Asked) -> Row:
     """Why a frame has its verdict."""
     entry, heard = asked.entry, asked.heard
@@ -139,7 +144,7 @@ def why_of(look: Look, asked: Asked) -> Row:
         "switch": switch_verdict(look, entry.port, entry.index),
         "switch_frame": switch_frame(look, entry.port, entry.index),
         "holder": holder_of(look, asked),
-        "look": next_step(entry.verdict, heard) if entry.verdict == NAME_HELD else step_of(look, entry.verdict, look.request_of(entry.port, entry.index)),
+        "look": next_step(entry.verdict, heard) if entry.verdict == NAME_HELD else here(step_of(look, entry.verdict, look.request_of(entry.port, entry.index))),
         "codes": code_rows(entry.verdict, heard.kind),
         "place": place_of(entry.verdict, said),
         "ends": ends,

@@ -174,7 +174,9 @@ def behind_silence(talk: Talk, tally: Tally) -> None:
         last, begin = one.last, one.begin + IN_FLIGHT
         macs = {grant.mac for grant in talk.live(last.at + 1) if grant.forwarder == last.heard.source}
         late = next((it for it in uses(talk) if begin < it.clock < one.end and it.heard.source in macs and not anew(talk, it, last)), None)
-        if late:
+        if late and talk.longest_rest(last.clock, late.clock) >= one.begin - last.clock:
+            tally.leave(f"no frame of anybody for {talk.longest_rest(last.clock, late.clock) / 1000:.1f} s before it: the capture may have a gap there", late)
+        elif late:
             tally.lack(one, late, Fault("source", colons(late.heard.source), f"nothing from this MAC: its forwarder fell silent after frame {last.place}"), missing=2)
         elif macs and one.end > begin:
             tally.held.append(last)

@@ -102,7 +102,9 @@ def asked_of_host(talk: Talk) -> Iterator[Exchange]:
 def judge_answer(talk: Talk, one: Exchange, tally: Tally, should: str) -> None:
     """An answer within twice R_A_TOV, where nothing ended the login meanwhile."""
     until = one.request.clock + PATIENCE
-    if one.reply:
+    if one.reply and talk.longest_rest(one.request.clock, one.reply.clock) > PATIENCE:
+        tally.leave("no frame of anybody between it and its answer: the capture may have a gap there", one.request)
+    elif one.reply:
         tally.judge(one.reply, want("answer", f"{(one.reply.clock - one.request.clock) / 1000:.1f} s after frame {one.request.place}", "within twice R_A_TOV", one.reply.clock <= until))
     elif one.aborted or ended_between(talk, one, until):
         tally.leave("its login or its exchange ended before it was answered", one.request)

@@ -78,8 +78,7 @@ def judge_gap(talk: Talk, before: Shown, it: Shown, period: int, tally: Tally) -
     """Where nothing else came meanwhile, the link may have been down."""
     gap = it.clock - before.clock
     fault = want("time without an advertisement", f"{gap / 1000:.1f} s after frame {before.place}", f"one each {period / 1000:g} s", gap <= PERIODS * period)
-    others = [one.clock for one in talk.within(before.clock, it.clock)]
-    if fault and max((two - one for one, two in zip(others, others[1:])), default=0) > period:
+    if fault and talk.longest_rest(before.clock, it.clock) > period:
         tally.leave(f"{fault.stands} without an advertisement, and {gap / 1000:.1f} s nearly without any frame: the link may have been down", it)
     else:
         tally.lack(("advertisement", it.at), it, fault, missing=2 if gap > SURE * period else 1)

@@ -318,6 +318,11 @@ class Talk:
         """The frames between two moments."""
         return self.frames[bisect_left(self.clocks, begin) : bisect_right(self.clocks, end)]
 
+    def longest_rest(self, begin: float, end: float) -> float:
+        """The longest time between two moments in which no frame stands, in milliseconds."""
+        clocks = [it.clock for it in self.within(begin, end)]
+        return max((two - one for one, two in zip(clocks, clocks[1:])), default=0)
+
     @cached_property
     def logins(self) -> list[Shown]:
         """The ENode's FLOGIs, FDISCs and LOGOs in FIP."""
@@ -436,7 +441,7 @@ class Talk:
         found = [Sign(it.what) for it in self.port.tidy.holes]
         if self.port.tidy.is_askew:
             found.append(Sign("the order of both directions is a guess"))
-        return [*found, *self.signs_of_exchanges(), *self.signs_of_beats()]
+        return [*found, *self.signs_of_exchanges(), *self.signs_of_beats(), *self.signs_of_rests()]
 
     def signs_of_exchanges(self) -> Iterator[Sign]:
         """An ABTS, or the same request once more, says that something was lost; so does an answer without its request."""
@@ -482,6 +487,17 @@ class Talk:
         late = [it for it, gap in gaps if LATE * period[0] < gap < 4 * period[0]]
         if len(gaps) - len(late) >= REGULAR * len(late):
             yield from (Sign(f"a keep alive fails before frame {it.place}", ("beat", it.at)) for it in late)
+
+    def signs_of_rests(self) -> Iterator[Sign]:
+        """A time without any frame of anybody, in which an advertisement fails too: the capture's gap, or its clock's jump."""
+        told = self.advertised(len(self.port.frames))
+        period = period_in(told.heard) if told else None
+        if period is None or not period[0] or not self.is_two_way:
+            return
+        moments = self.port.frames.moments
+        for at, (one, two) in enumerate(zip(moments, moments[1:]), 1):
+            if two - one > LATE * period[0] * MILLISECOND:
+                yield Sign(f"no frame of anybody for {(two - one) / MILLISECOND / 1000:.1f} s before frame {self.port.frames.number(at)}")
 
     def gave_up(self, address: int, begin: float, end: float) -> bool:
         """The ENode or its forwarder ended the login of an address meanwhile: by FLOGI, LOGO, Clear Virtual Links, a solicitation or silence."""

@@ -9,7 +9,7 @@ from ..moments import short
 from ..runs.looking import Look
 
 LISTED = 20  # frames of a rule that the page lists
-WHOLE = 8  # hosts and forwarders up to which each has its tables; of more those with a broken rule alone
+WHOLE = 8  # hosts and forwarders up to which each has its tables
 
 
 def checked(look: Look) -> Checked:
@@ -28,14 +28,14 @@ def broken_row(it: Found, first: int) -> Row:
     return {"rule": it.rule.name, "text": it.rule.text, "source": it.rule.cited, "frames": frames, "more": max(len(it.tally.broken) - LISTED, 0)}
 
 
-def check_rows(look: Look, first: int) -> list[dict[str, Any]]:
-    """Each host and forwarder with its rules by their states."""
+def check_rows(look: Look, first: int) -> dict[str, Any]:
+    """Each host and forwarder with its rules by their states; of many those with a broken rule, and how many are left out."""
     found, everyone = [], list(checked(look).by_whom())
     for talk, rows in everyone:
         of = {state: [it for it in rows if it.tally.state == state] for state in STATES}
         counts = {state: len(some) for state, some in of.items()}
         if len(everyone) > WHOLE and not of[BROKEN]:
-            of = {state: [] for state in STATES}
+            continue
         found.append(
             {
                 "who": rows[0].who,
@@ -49,4 +49,4 @@ def check_rows(look: Look, first: int) -> list[dict[str, Any]]:
                 "unseen": [it.rule.name for it in of[UNSEEN]],
             }
         )
-    return found
+    return {"rows": found, "left": len(everyone) - len(found)}

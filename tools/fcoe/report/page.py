@@ -6,7 +6,7 @@ import re
 from html import escape
 from typing import Any, Callable
 
-from ..answers.texts import UNGRANTED, Line, lines_of, together
+from ..answers.texts import BESIDE, UNGRANTED, Line, lines_of, together
 from ..answers.traffic import NOISE
 from ..answers.views import Row, busiest, counts, first_clock, meaning_of, names, summary, zones
 from ..errors import Refused, counted
@@ -95,7 +95,7 @@ def comparison_rows(look: Look) -> Any:
     sums = totals(found)
     states = states_in(sums)
     kinds = [{"kind": kind, "states": [some[state] for state in states]} for kind, some in by_kind(found).items()]
-    return {"kinds": kinds, "apart": apart, "more": max(len(groups) - LISTED, 0), "states": states, "totals": sums, "forwarded": found.forwarded, "others": found.others}
+    return {"kinds": kinds, "apart": apart, "more": max(len(groups) - LISTED, 0), "states": states, "totals": sums, "forwarded": found.forwarded, "beside": [(words, some(found)) for words, some in BESIDE.items()]}
 
 
 def answer_rows(found: Row) -> list[Row]:

@@ -110,7 +110,8 @@ class Comparison:
     forwards: list[Compared] = field(default_factory=list)
     notices: list[Compared] = field(default_factory=list)
     advertisements: list[Compared] = field(default_factory=list)
-    others: Counter[str] = field(default_factory=Counter)
+    others: Counter[str] = field(default_factory=Counter)  # frames of the switch that fit no request
+    elsewhere: Counter[str] = field(default_factory=Counter)  # and those of further switches, or in further VLANs
     went: Optional[Marked] = None  # the data frames that the switch sent on
 
     def all(self) -> list[Compared]:
@@ -342,10 +343,10 @@ def forwards(run: Run, found: Comparison, went: Marked) -> tuple[list[Forwarded]
         if target is not None and not was_sent and target not in can_show:
             found.forwarded["can't be told: no frames of the switch in that port's capture"] += 1
         elif was_sent == (target is not None):
-            found.forwarded["sent on by both" if was_sent else "by neither"] += 1
+            found.forwarded["sent on by both" if was_sent else "sent on by none of the two"] += 1
         else:
             entry = run.entries.frame(place)
-            found.forwarded["by the switch alone" if was_sent else "by the forwarder alone"] += 1
+            found.forwarded["sent on by the switch alone" if was_sent else "sent on by the forwarder alone"] += 1
             apart.append(Forwarded(forwarding(port, at, was_sent, entry), place, entry, pair))
     return apart, seen
 
@@ -513,7 +514,8 @@ def compare(run: Run, walk: Walk) -> Optional[Comparison]:
                 heard = port.frames.like(at)
                 fc = heard.fc
                 if heard.is_fabric and not (fc and heard.is_fcoe and (fc.s_id not in SERVICES or fc.seq_cnt)):  # exchanges between N_Ports have a table of their own
-                    found.others[heard.kind] += 1
+                    is_own = heard.source == run.config.mac and heard.vlan in (0, run.config.vlan)
+                    (found.others if is_own else found.elsewhere)[heard.kind] += 1
     return found
 
 

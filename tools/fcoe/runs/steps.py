@@ -5,10 +5,16 @@ from .journals import row_of
 NO_ROOM = "rejected 09 29"
 LOGIN_STEPS = {
     "rejected 0b 2c": "the FIP flags: FP and SP say which kind of MAC the host asks for (`look fields`)",
-    "rejected 0b 00": "the class of service that the host asks for (`look fields`)",
-    "rejected 09 00": "the ENode's own FLOGI comes before its FDISC",
+    "rejected 0b 00": "whether that port of the switch takes hosts at all: FCoE on there, its mode (F_Port), its VSAN or fabric; else the class of service that the host asks for (`look fields`)",
+    "rejected 09 00": "whether that port of the switch, its VSAN and its fabric are up; the switch's log at that time",
     "rejected 03 00": "the port name beside those of all logins at that moment (`look logins --at`)",
 }
+FDISC_STEPS = {
+    **LOGIN_STEPS,
+    "rejected 0b 00": "whether NPIV is on at the switch's port (`feature npiv`, `portcfgnpivport`); else the class of service that the host asks for (`look fields`)",
+    "rejected 09 00": "the ENode's own FLOGI comes before its FDISC",
+}
+STEPS = {"FLOGI": LOGIN_STEPS, "FDISC": FDISC_STEPS}
 SERVICE_STEPS = {
     "rejected 0b 2c": "nothing, where the host goes on without it: this link service isn't in the profile (docs/inside/DECISIONS.md)",
     "rejected 0b 00": "the class of service that the host asks for (`look fields`)",
@@ -39,7 +45,7 @@ def next_step(verdict: str, heard: Heard) -> str:
         size, whose = (own, f" of class 3 is {own}, the common one {common}") if 0 < own < common else (common, f" is {common}")
         return f"the host's receive size{whose}: " + (MTU if size < FULL else "the switch's log has what it wants (`look fields`)")
     if verdict.startswith(("rejected", "refused")):
-        steps = LOGIN_STEPS if heard.kind in ("FLOGI", "FDISC") else SERVICE_STEPS
+        steps = STEPS.get(heard.kind, SERVICE_STEPS)
         return steps.get(verdict) or BY_REASON.get(verdict.split(" ")[1]) or BY_EXPLANATION.get(verdict.split(" ")[-1]) or OTHERWISE
     if verdict == "dropped vlan":
         return "which VLAN the host's FCoE interface has, and the switch's" if heard.vlan else "whether the host sends without a tag, or the capture lost it (a VLAN interface)"
