@@ -94,8 +94,8 @@ def nested(seed: int, folder: Path) -> list[Path]:
 @kind(r"\d+ frames end with the Ethernet check sequence", is_well=True)
 def mirror_with_fcs(seed: int, folder: Path) -> list[Path]:
     """A mirror that travels and keeps the check sequence of the frame inside."""
-    outer: Wrap = erspan_of if seed % 2 else vxlan_of
-    return wrapped(seed, folder, with_sequence_of, outer)
+    outer: list[Wrap] = [vxlan_of, erspan_of]
+    return wrapped(seed, folder, with_sequence_of, outer[seed % 2])
 
 
 @kind(r"\d+ frames end with the Ethernet check sequence", is_well=True)

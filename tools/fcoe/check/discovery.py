@@ -1,6 +1,7 @@
 """Rules on FIP in general, on VLAN requests, on solicitations, and on the choice of a forwarder (FC-BB-5, FIP)."""
 from typing import Hashable, Iterator, Optional
 
+from ..frames.codes import descriptors_text
 from ..frames.heard import ADVERTISE, ALL_FCFS, KEEP_ALIVE, LOGIN, SOLICIT, VLAN_REQUEST, VLAN_TELL, Heard, colons, number
 from .habits import strayed, stretches
 from .rules import ONE_WAY, Fault, Group, Tally, want
@@ -45,7 +46,7 @@ def in_order(talk: Talk, tally: Tally) -> None:
     for it in fip_frames(talk):
         order = order_of(it)
         found = [one.kind for one in it.heard.descriptors if one.kind in order]
-        tally.judge(it, want("descriptors", listed(found), listed(sorted(found, key=order.index))))
+        tally.judge(it, want("descriptors", descriptors_text(found), descriptors_text(sorted(found, key=order.index))))
 
 
 @RULES.rule("fip-surplus", "FC-BB-5, FIP operations; FIP descriptors", "A message has no critical descriptor (type below 128) that its operation hasn't.")
@@ -54,7 +55,7 @@ def no_surplus(talk: Talk, tally: Tally) -> None:
         order = order_of(it)
         further = [one.kind for one in it.heard.descriptors if one.kind < CRITICAL and one.kind not in order]
         if order:
-            tally.judge(it, want("further descriptors", listed(further), "none below 128", not further))
+            tally.judge(it, want("further descriptors", descriptors_text(further), "none below 128", not further))
 
 
 def order_of(it: Shown) -> tuple[int, ...]:
@@ -114,14 +115,10 @@ def asks_forwarders(talk: Talk, tally: Tally) -> None:
 
 
 
-def listed(kinds: list[int]) -> str:
-    return " ".join(str(it) for it in kinds) or "none"
-
-
 def has_kinds(heard: Heard, kinds: tuple[int, ...]) -> Optional[Fault]:
     """Each of these descriptors stands once; further ones that may be skipped (from 128 on) are free."""
     found = [it.kind for it in heard.descriptors]
-    return want("descriptors", listed(found), listed(list(kinds)) + ", each once", all(found.count(it) == 1 for it in kinds))
+    return want("descriptors", descriptors_text(found), descriptors_text(list(kinds)) + ", each once", all(found.count(it) == 1 for it in kinds))
 
 
 def with_kinds(it: Shown) -> list[Optional[Fault]]:

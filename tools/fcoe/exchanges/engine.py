@@ -3,7 +3,7 @@ from collections import Counter, OrderedDict
 from dataclasses import dataclass, field
 from typing import Callable, Iterable, Optional
 
-from .exchange import UNKNOWN, End, Exchange, Kind, Sequence, View
+from .exchange import NO_BYTES, UNKNOWN, End, Exchange, Kind, Sequence, View
 from .frame import CT_REPLY, DATA, ELS, END_SEQUENCE, EXTENDED, FCP, FROM_RESPONDER, HAS_OFFSET, LAST_SEQUENCE, NVME, RESPONSE, FcFrame
 from .reading import (
     concerned,
@@ -17,6 +17,7 @@ from .reading import (
     take_link_control,
     take_response,
 )
+from .spans import Spans
 
 Key = tuple[int, bytes, int, int, int]  # VLAN, ENode (in FIP), originator, responder, OX_ID
 SECOND = 1_000_000_000
@@ -108,8 +109,9 @@ class Engine:
         ends = (frame.d_id, frame.s_id) if is_back else (frame.s_id, frame.d_id)
         exchange = self.live.get((frame.vlan, b"", *ends, frame.ox_id))
         view = exchange.views.get(frame.port) if exchange is not None else None
-        sequence = exchange.sequences.get((is_back, frame.seq_id)) if exchange is not None else None
-        if exchange is None or view is None or sequence is None or not frame.is_intact:
+        sequences = exchange.sequences if exchange is not None else None
+        sequence = sequences.get((is_back, frame.seq_id)) if sequences is not None else None
+        if exchange is None or view is None or sequences is None or sequence is None or not frame.is_intact:
             return False
         if sequence.last + 1 != frame.seq_cnt or sequence.is_ended or sequence.r_ctl != frame.r_ctl or len(sequence.counts.ends) != 1:
             return False
@@ -119,7 +121,7 @@ class Engine:
         view.longest = max(view.longest, frame.length)
         sequence.last, sequence.counts.ends[0] = frame.seq_cnt, frame.seq_cnt + 1
         if frame.f_ctl & END_SEQUENCE:
-            del exchange.sequences[is_back, frame.seq_id]
+            del sequences[is_back, frame.seq_id]
         self.take_data(exchange, frame)
         return True
 
@@ -211,7 +213,7 @@ class Engine:
         view.kinds[word] = view.kinds.get(word, 0) + 1
         view.longest = max(view.longest, frame.length)
         if not frame.is_intact:
-            exchange.broken.append(frame.place)
+            exchange.broken += (frame.place,)
             exchange.broken_by_host += not frame.is_from_switch
         if frame.is_from_responder and frame.rx_id != 0xFFFF:
             exchange.rx_id = frame.rx_id
@@ -222,17 +224,21 @@ class Engine:
     def note_sequence(exchange: Exchange, frame: FcFrame) -> None:
         """The frame's place in its sequence; a sequence that is whole is forgotten."""
         key = (frame.is_from_responder, frame.seq_id)
-        sequence = exchange.sequences.get(key)
+        sequences = exchange.sequences
+        sequence = sequences.get(key) if sequences is not None else None
         if sequence is None or sequence.r_ctl != frame.r_ctl or sequence.is_ended and not sequence.holes:
             if frame.ends_sequence:  # it is the whole of it
-                exchange.sequences.pop(key, None)
+                if sequences is not None:
+                    sequences.pop(key, None)
                 return
-            sequence = exchange.sequences[key] = Sequence(frame.r_ctl, frame.seq_cnt)
+            if sequences is None:
+                sequences = exchange.sequences = {}
+            sequence = sequences[key] = Sequence(frame.r_ctl, frame.seq_cnt)
         sequence.counts.add(frame.seq_cnt, frame.seq_cnt + 1)
         sequence.first, sequence.last = min(sequence.first, frame.seq_cnt), max(sequence.last, frame.seq_cnt)
         sequence.is_ended = sequence.is_ended or frame.ends_sequence
-        if sequence.is_ended and not sequence.holes:
-            del exchange.sequences[key]
+        if sequences is not None and sequence.is_ended and not sequence.holes:
+            del sequences[key]
 
     def take_into(self, key: Key, exchange: Exchange, frame: FcFrame) -> None:
         """What a frame means for its exchange."""
@@ -267,6 +273,10 @@ class Engine:
         if not frame.is_intact:
             return
         view = exchange.views[frame.port]
+        if view.data is NO_BYTES:
+            view.data = Spans()
+        if exchange.data is NO_BYTES:
+            exchange.data = Spans()
         offset = frame.parameter if frame.f_ctl & HAS_OFFSET else view.data.ends[-1] if view.data.ends else 0
         view.data.add(offset, offset + frame.size)
         view.data_frames += 1
@@ -313,7 +323,7 @@ class Engine:
         for ends in pairs:
             found = self.live.get((frame.vlan, b"", *ends, ox_id))
             if found is not None:
-                found.marks.append(f"{word} in {place_text(frame.place)}")
+                found.marks += (f"{word} in {place_text(frame.place)}",)
                 return
 
     def log_out(self, exchange: Exchange) -> None:
@@ -323,7 +333,7 @@ class Engine:
         whom = logged_out_by(exchange)
         own = [key for key, it in self.live.items() if it is not exchange and it.end is None and it.kind in (Kind.FCP, Kind.NVME) and whom <= {it.originator, it.responder}]
         for key in own:
-            self.live[key].marks.append(f"{exchange.command} in {place_text(exchange.first)}")
+            self.live[key].marks += (f"{exchange.command} in {place_text(exchange.first)}",)
             self.close(key, End.LOGGED_OUT)
 
     # ---- the end

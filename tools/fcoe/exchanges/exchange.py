@@ -7,6 +7,7 @@ from .spans import Spans
 
 UNKNOWN = "request not captured"
 Place = tuple[int, int]  # of a frame: port, and number as Wireshark shows it
+NO_BYTES = Spans()  # of whom no data came yet, which most are: never added to
 
 
 class Kind(str, Enum):
@@ -61,7 +62,7 @@ class View:
     """What one port saw of an exchange: frames by kind of information, bytes of data that came."""
 
     kinds: dict[str, int] = field(default_factory=dict)
-    data: Spans = field(default_factory=Spans)
+    data: Spans = NO_BYTES
     data_frames: int = 0
     longest: int = 0  # the longest frame, on the wire
 
@@ -96,17 +97,17 @@ class Exchange:
     reads: bool = False
     writes: bool = False
     wanted: int = 0  # bytes, FCP_DL
-    data: Spans = field(default_factory=Spans)
+    data: Spans = NO_BYTES
     head: bytes = b""  # the first bytes of data
     status: Optional[int] = None
     residual: int = 0  # over, where positive; under, where negative
     request: bytes = b""  # the payload of the request, as much as is kept
     reply: bytes = b""
-    sequences: dict[tuple[bool, int], Sequence] = field(default_factory=dict)
+    sequences: Optional[dict[tuple[bool, int], Sequence]] = None  # that aren't whole
     views: dict[int, View] = field(default_factory=dict)
-    broken: list[Place] = field(default_factory=list)  # frames whose check sequence is wrong
+    broken: tuple[Place, ...] = ()  # frames whose check sequence is wrong
     broken_by_host: int = 0  # of which so many were on their way from a host to the switch
-    marks: list[str] = field(default_factory=list)  # REC, SRR, ABTS and the like, with their frames
+    marks: tuple[str, ...] = ()  # REC, SRR, ABTS and the like, with their frames
     aborted: Optional[int] = None  # when the first ABTS came
     abort: Optional[Place] = None
 
@@ -151,7 +152,7 @@ class Exchange:
     def holes(self) -> list[str]:
         """Missing frames within sequences, in words."""
         found = []
-        for (_, seq_id), sequence in self.sequences.items():
+        for (_, seq_id), sequence in (self.sequences or {}).items():
             for begin, end in sequence.holes:
                 count = f"SEQ_CNT {begin}" if end == begin + 1 else f"SEQ_CNT {begin} to {end - 1}"
                 found.append(f"{count} of SEQ_ID {seq_id:02x}")

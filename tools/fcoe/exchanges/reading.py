@@ -54,7 +54,7 @@ def take_command(made: Exchange, payload: bytes) -> None:
     made.reads, made.writes = bool(payload[11] & 2), bool(payload[11] & 1)
     made.cdb = payload[12 : 28 + more]
     made.wanted = number(payload[28 + more : 32 + more])
-    flags = [name for bit, name in TASK_FLAGS.items() if made.management & bit]
+    flags = [name for bit, name in TASK_FLAGS.items() if made.management & bit] if made.management else []
     made.command = " + ".join(flags) if flags else scsi.command_name(made.cdb)
 
 
@@ -128,7 +128,7 @@ def take_response(made: Exchange, payload: bytes) -> None:
 def take_basic(made: Exchange, frame: FcFrame) -> None:
     """ABTS and its answers."""
     if frame.r_ctl == ABTS:
-        made.marks.append(f"ABTS in {place_text(frame.place)}")
+        made.marks += (f"ABTS in {place_text(frame.place)}",)
         made.end, made.aborted = End.ABORT_UNANSWERED, made.aborted or frame.moment
         made.abort = made.abort or frame.place
     elif frame.r_ctl == BA_ACC and made.aborted is not None:

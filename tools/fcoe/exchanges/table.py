@@ -102,7 +102,7 @@ def ended_text(it: Exchange) -> str:
         words.append(f"{it.came} of {it.due} bytes seen")
     words += [f"lacks {hole}" for hole in it.holes[:3]]
     words += [f"wrong check sequence in {len(it.broken)} of its frames"] if it.broken else []
-    return "; ".join(words + it.marks[:4])
+    return "; ".join([*words, *it.marks[:4]])
 
 
 def line_of(it: Exchange) -> str:

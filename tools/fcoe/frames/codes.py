@@ -1,5 +1,5 @@
 """Codes in words: reasons and explanations of rejects (FC-LS-2, FC-GS-6), FC-4 types and their features."""
-from typing import Optional
+from typing import Iterable, Optional
 
 LS_REASONS = {
     0x01: "invalid command",
@@ -58,6 +58,13 @@ CT_EXPLANATIONS = {
 }
 FC4_TYPES = {0x05: "ip", 0x08: "scsi-fcp", 0x1B: "fc-sb", 0x1C: "fc-sb", 0x20: "ct", 0x28: "nvme"}
 ROLES = {1: "target", 2: "initiator", 3: "both"}  # features of scsi-fcp and nvme (FC-GS-6, FC-4 features)
+
+DESCRIPTORS = {1: "priority", 2: "MAC", 3: "FC-MAP", 4: "name", 5: "fabric", 6: "size", 7: "FLOGI", 8: "FDISC", 9: "LOGO", 10: "ELP", 11: "Vx_Port", 12: "period", 13: "vendor", 14: "VLAN"}
+
+
+def descriptors_text(kinds: Iterable[int]) -> str:
+    """Descriptors of FIP by their names, in their order (FC-BB-5)."""
+    return ", ".join(DESCRIPTORS.get(it, str(it)) for it in kinds) or "none"
 
 
 def in_words(reason: int, explanation: int, is_ct: bool = False) -> str:

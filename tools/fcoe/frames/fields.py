@@ -1,7 +1,7 @@
 """The fields of a frame by name, as they are compared and shown (FC-BB-5, FC-FS-3, FC-LS-2, FC-GS-6)."""
 from typing import Optional
 
-from .codes import CT_EXPLANATIONS, CT_REASONS, LS_EXPLANATIONS, LS_REASONS
+from .codes import CT_EXPLANATIONS, CT_REASONS, LS_EXPLANATIONS, LS_REASONS, descriptors_text
 from .heard import CT, ELS, EOFN, EOFT, LOGINS, SOFI3, SOFN3, Descriptor, Fc, Heard, colons, fc_check, fcid, number
 
 Fields = dict[str, str]
@@ -188,7 +188,7 @@ def fields_of(heard: Heard, asked: Optional[int] = None, payload: Optional[bytes
     if heard.is_fip:
         found["message"] = heard.kind
         found["FIP flags"] = flag_words(heard.flags, FLAGS)
-        found["descriptors"] = " ".join(str(it.kind) for it in heard.descriptors)
+        found["descriptors"] = descriptors_text(it.kind for it in heard.descriptors)
         for it in heard.descriptors:
             if it.kind in LOGINS and heard.fc is not None:
                 merged(found, fc_fields(heard.fc, None))

@@ -128,7 +128,7 @@ def note_of(name: str, kind: str, switch: str, forwarder: str) -> str:
     if name == "class 3" and (switch[:1] in "01234567") != (forwarder[:1] in "01234567"):
         return ""
     is_list = name == "VLAN" and set(forwarder.split(", ")) <= set(switch.split(", "))
-    if kind.startswith("VLAN") and (is_list or name == "descriptors" and switch.startswith(forwarder) and set(switch[len(forwarder) :].split()) <= {"14"}):
+    if kind.startswith("VLAN") and (is_list or name == "descriptors" and switch.startswith(forwarder) and set(switch[len(forwarder) :].split(", ")) <= {"", "VLAN"}):
         return "FC-BB-5: a switch names each VLAN in which it has a fabric for this host"
     if name in ("VLAN tag", "priority (802.1Q)") and kind.startswith("VLAN"):
         return "IEEE 802.1Q: VLAN 0 is a priority without a VLAN"
@@ -137,7 +137,7 @@ def note_of(name: str, kind: str, switch: str, forwarder: str) -> str:
     if name == "FIP flags":
         apart = set(switch.split()) ^ set(forwarder.split()) - {"none"}
         return FLAGS_OFFERED if apart <= ({"FP", "SP"} if kind.startswith("Advertisement") else {"FP", "SP", "F"}) else ""
-    if name == "bytes after the Ethertype" and min(int(switch), int(forwarder)) >= PADDED:
+    if name == "bytes with padding" and min(int(switch), int(forwarder)) >= PADDED:
         return "FC-BB-5: padded to the host's Max_FCoE_Size, counted with the Ethernet head or without it"
     if name in ("descriptors", "FIP MAC") and ("reject" in kind or kind.startswith("LOGO")):
         return NO_MAC
@@ -185,7 +185,7 @@ def read_reply(frames: list[Heard], asked: Optional[int]) -> Fields:
         for name in ("check sequence", "SOF"):
             fields.pop(name, None)
     if first.operation == ADVERTISE:
-        fields["bytes after the Ethertype"] = str(len(first.data) - first.at)
+        fields["bytes with padding"] = str(len(first.data) - first.at)
     return fields
 
 
