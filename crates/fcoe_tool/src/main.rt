@@ -1,6 +1,9 @@
 //! One FCoE forwarder, run over captures.
 #![tactic(auto)]
 
+#[cfg(test)]
+mod tests;
+
 use std::process::ExitCode;
 use tool_process::run_process;
 

@@ -1,7 +1,9 @@
 //! What the tests share: a depot of two captures, words, and a run.
+ghost use Rattle.fab_base.specs.MemDepot.{mem_seen};
 ghost use Rattle.fabric_tool.specs.Command.{AllKnown};
 
-use fab_base::{Depot, Gate, MemDepot, MemSink, NoMemory, OpenGate};
+use crate::counter::{Counter, counted};
+use fab_base::{Gate, MemDepot, MemSink, NoMemory};
 use fabric_tool::fabric_tool;
 use std::alloc::{AllocError, Global};
 use std::process::Abort;
@@ -62,7 +64,7 @@ pub(crate) fn depot_of(
     config: &[u8],
     input: &[u8],
     second: &[u8],
-) -> Result<MemDepot, NoMemory> {
+) -> Result<Counter, NoMemory> {
     let mut depot = MemDepot::new(alloc)?;
     depot.store(alloc, "K", config)?;
     depot.store(alloc, "IN", input)?;
@@ -71,41 +73,45 @@ pub(crate) fn depot_of(
     depot.know(alloc, "OUT")?;
     depot.know(alloc, "OUT2")?;
     depot.know(alloc, "run")?;
-    Ok(depot)
+    Ok(counted(depot))
 }
 
 pub(crate) const TWO_PORTS: [&str; 7] = ["run", "K", "J", "IN", "OUT", "IN2", "OUT2"];
 
 // The status of a command over a depot that knows its words: the one call of the tests.
-pub(crate) fn status_of<R: Threads + Wait + Sync, D: Depot, G: Gate + Sync>(
+pub(crate) fn status_of<R: Threads + Wait + Sync, G: Gate + Sync>(
     rt: &R,
     alloc: Global,
     words: &[String],
-    depot: &mut D,
+    depot: &mut Counter,
     say: &mut MemSink,
     gate: &G,
 ) -> u8
-    requires { AllKnown (D.seen depot.old) words.now }
+    requires { AllKnown (mem_seen depot.old.depot) words.now }
 {
     fabric_tool(rt, alloc, words, depot, say, gate)
 }
 
-// Runs a command, which prints this line and answers this status.
-pub(crate) fn runs<R: Threads + Wait + Sync + Abort>(
+// Runs a command under a gate, which prints this line and answers this status.
+pub(crate) fn ends_under<R: Threads + Wait + Sync + Abort, G: Gate + Sync>(
     rt: &R,
     alloc: Global,
     words: &[&str],
-    depot: &mut MemDepot,
-    line: &[u8],
-    wanted: u8,
+    depot: &mut Counter,
+    gate: &G,
+    wanted: (&[u8], u8),
 ) -> Result<(), Fail> {
-    let mut say = MemSink::new(alloc, 100)?;
     let words = words_in(alloc, words)?;
-    assert!(rt; depot.knows_all(&words));
-    let status = status_of(rt, alloc, &words, depot, &mut say, &OpenGate);
-    assert_eq!(rt; say.content(), line);
-    assert_eq!(rt; status, wanted);
+    let mut say = MemSink::new(alloc, 100)?;
+    assert!(rt; depot.depot.knows_all(&words));
+    let status = status_of(rt, alloc, &words, depot, &mut say, gate);
+    assert_eq!(rt; say.content(), wanted.0);
+    assert_eq!(rt; status, wanted.1);
     Ok(())
+}
+
+pub(crate) fn assert_journal(rt: &impl Abort, depot: &Counter, journal: &str) {
+    assert_eq!(rt; depot.depot.content("J"), Some(journal.as_bytes()));
 }
 
 // One record more.

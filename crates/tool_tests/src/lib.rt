@@ -2,16 +2,18 @@
 #![tactic(auto)]
 
 #[cfg(test)]
+mod counter;
+#[cfg(test)]
 mod gate;
 #[cfg(test)]
 mod inputs;
 #[cfg(test)]
 mod limits;
 #[cfg(test)]
-mod process;
-#[cfg(test)]
 mod quiet;
 #[cfg(test)]
 mod stores;
+#[cfg(test)]
+mod watch;
 #[cfg(test)]
 mod workers;

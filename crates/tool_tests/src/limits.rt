@@ -9,7 +9,7 @@ fn a_journal_past_its_limit_is_not_migrated(rt: HostRuntime) -> Result<(), Fail>
     let alloc = rt.alloc();
     let mut depot = depot_of(alloc, &CONFIG, &REQUEST, &REQUEST)?;
     let words = words_in(alloc, &["IN", "OUT"])?;
-    assert!(rt; depot.knows_all(&words));
+    assert!(rt; depot.depot.knows_all(&words));
     assert_eq!(rt; words.len(), 2);
     let (from, to) = (word_at(&words, 0), word_at(&words, 1));
     let ended = migrate(alloc, &mut depot, from, to, REQUEST.len() as u64 - 1);

@@ -1,9 +1,9 @@
 //! Windows of two ports under gates that hold nobody: few bytes go in turn, ports ascending, and
 //! 64 MiB by a worker a port.
 use crate::inputs::{
-    CONFIG, HEAD, REQUEST, TWO_PORTS, depot_of, put_record, runs, status_of, words_in,
+    CONFIG, HEAD, REQUEST, TWO_PORTS, assert_journal, depot_of, ends_under, put_record,
 };
-use fab_base::{FcId, Gate, MemDepot, MemSink, PortNo};
+use fab_base::{FcId, Gate, PortNo};
 use std::alloc::Global;
 use std::process::Abort;
 use std::sync::Wait;
@@ -33,19 +33,13 @@ fn runs_in_turn<R: Threads + Wait + Sync + Abort>(
     capture: &[u8],
 ) -> Result<(), Fail> {
     let mut depot = depot_of(alloc, &CONFIG, capture, capture)?;
-    runs(
-        rt,
-        alloc,
-        &TWO_PORTS,
-        &mut depot,
-        b"frames 8 entries 11\n",
-        0,
-    )?;
+    let wanted = (b"frames 8 entries 11\n".as_slice(), 0);
+    ends_under(rt, alloc, &TWO_PORTS, &mut depot, &Door::new(false), wanted)?;
     let journal = "journal 2\n\
         1000 tick\n1000 1 0 vlans\n1000 1 1 vlans\n1000 2 0 vlans\n1000 2 1 vlans\n\
         1100 tick\n1100 1 2 vlans\n1100 2 2 vlans\n\
         1200 tick\n1200 1 3 vlans\n1200 2 3 vlans\n";
-    assert_eq!(rt; depot.content("J"), Some(journal.as_bytes()));
+    assert_journal(rt, &depot, journal);
     Ok(())
 }
 
@@ -157,22 +151,8 @@ fn passes<R: Threads + Wait + Sync + Abort>(
     let first = zeros(alloc, 0)?;
     let second = zeros(alloc, short)?;
     let mut depot = depot_of(alloc, &CONFIG, &first, &second)?;
-    runs_past(rt, alloc, &mut depot, door)
-}
-
-fn runs_past<R: Threads + Wait + Sync + Abort>(
-    rt: &R,
-    alloc: Global,
-    depot: &mut MemDepot,
-    door: &Door,
-) -> Result<(), Fail> {
-    let words = words_in(alloc, &TWO_PORTS)?;
-    assert!(rt; depot.knows_all(&words));
-    let mut say = MemSink::new(alloc, 100)?;
-    let status = status_of(rt, alloc, &words, depot, &mut say, door);
-    assert_eq!(rt; status, 0);
-    assert_eq!(rt; say.content(), b"frames 2048 entries 2049\n".as_slice());
-    Ok(())
+    let wanted = (b"frames 2048 entries 2049\n".as_slice(), 0);
+    ends_under(rt, alloc, &TWO_PORTS, &mut depot, door, wanted)
 }
 
 // In turn the first frame of port 1 would wait in vain.

@@ -1,151 +1,36 @@
 //! Two ports in one window, each with a worker of its own under gates that hold them.
-use crate::inputs::{CONFIG, REQUEST, TWO_PORTS, concatenated, depot_of, status_of, words_in};
-use fab_base::{FcId, Gate, MemDepot, MemSink, PortNo};
+use crate::counter::Counter;
+use crate::inputs::{
+    CONFIG, REQUEST, TWO_PORTS, assert_journal, concatenated, depot_of, ends_under,
+};
+use crate::watch::{Hold, Watch};
 use std::alloc::Global;
 use std::process::Abort;
 use std::sync::Wait;
-use std::sync::atomic::{AtomicU64, Ordering};
 use std::test::Fail;
-use std::thread;
 use std::thread::Threads;
 
-// How often a worker looks and yields at most: seconds, or more where others have the processors.
-const TURNS: u64 = 10_000_000;
-
-// What has happened, a bit for each port and index, and whether somebody waited in vain.
-#[derive(Drop)]
-struct Board {
-    bits: AtomicU64,
-    late: AtomicU64,
+// Both frames have passed, and neither waited in vain.
+fn assert_met(rt: &impl Abort, gate: &Watch) {
+    assert!(rt; gate.is_in_time());
+    assert_eq!(rt; gate.bits(), 5);
 }
 
-impl Board {
-    fn new() -> Board {
-        Board {
-            bits: AtomicU64::new(0),
-            late: AtomicU64::new(0),
-        }
-    }
-
-    fn bit(port: PortNo, index: u64) -> u64 {
-        match (port.value(), index) {
-            (1, 0) => 1,
-            (1, 1) => 2,
-            (2, 0) => 4,
-            (2, 1) => 8,
-            _ => 0,
-        }
-    }
-
-    fn mark(&self, bit: u64) {
-        self.bits.fetch_or(bit, Ordering::SeqCst);
-    }
-
-    fn wait(&self, bit: u64) {
-        for _turn in 0..TURNS {
-            if self.bits.load(Ordering::SeqCst) & bit != 0 {
-                return;
-            }
-            thread::yield_now();
-        }
-        self.late.store(1, Ordering::SeqCst);
-    }
-
-    fn is_in_time(&self) -> bool {
-        self.late.load(Ordering::SeqCst) == 0
-    }
-}
-
-// The ports wait for each other.
-#[derive(Drop)]
-struct Meeting {
-    board: Board,
-}
-
-impl Gate for Meeting {
-    fn pass(&self, port: PortNo, index: u64) {
-        self.board.mark(Board::bit(port, index));
-        let other = if port.value() == 1 { 4 } else { 1 };
-        self.board.wait(other);
-    }
-
-    fn done(&self, _port: PortNo, _index: u64, _granted: Option<FcId>) {}
-}
-
-// One port has the first step and the last: the other one's first frame waits for its first one,
-// and its second frame for the other one's second.
-#[derive(Drop)]
-struct Order {
-    first: u32,
-    board: Board,
-    granted: [AtomicU64; 2],
-}
-
-impl Order {
-    fn new(first: u32) -> Order {
-        Order {
-            first,
-            board: Board::new(),
-            granted: [AtomicU64::new(0), AtomicU64::new(0)],
-        }
-    }
-
-    fn address(&self, place: usize) -> u64 {
-        match self.granted.get(place) {
-            Some(granted) => granted.load(Ordering::SeqCst),
-            None => 0,
-        }
-    }
-}
-
-impl Gate for Order {
-    fn pass(&self, port: PortNo, index: u64) {
-        let is_first = port.value() == self.first;
-        let other = if port.value() == 1 { 4 } else { 1 };
-        if !is_first && index == 0 {
-            self.board.wait(other);
-        }
-        if is_first && index == 1 {
-            self.board.wait(2 * other);
-        }
-    }
-
-    fn done(&self, port: PortNo, index: u64, granted: Option<FcId>) {
-        if let (Some(address), Some(kept)) = (granted, self.granted.get(port.index())) {
-            kept.store(u64::from(address.value()), Ordering::SeqCst);
-        }
-        self.board.mark(Board::bit(port, index));
-    }
-}
-
-// A run over two ports under a gate ends well.
-fn runs_under<R: Threads + Wait + Sync + Abort, G: Gate + Sync>(
-    rt: &R,
-    alloc: Global,
-    depot: &mut MemDepot,
-    gate: &G,
-) -> Result<(), Fail> {
-    let words = words_in(alloc, &TWO_PORTS)?;
-    assert!(rt; depot.knows_all(&words));
-    let mut say = MemSink::new(alloc, 100)?;
-    let status = status_of(rt, alloc, &words, depot, &mut say, gate);
-    assert_eq!(rt; status, 0);
-    Ok(())
+// The ports have their frames in one order or the other.
+fn assert_either(rt: &impl Abort, journal: Option<&[u8]>) {
+    let one = b"journal 2\n1000 tick\n1000 1 0 vlans\n1000 2 0 vlans\n".as_slice();
+    let other = b"journal 2\n1000 tick\n1000 2 0 vlans\n1000 1 0 vlans\n".as_slice();
+    assert!(rt; journal == Some(one) || journal == Some(other));
 }
 
 #[test]
 fn two_ports_at_once(rt: HostRuntime) -> Result<(), Fail> {
     let mut depot = depot_of(rt.alloc(), &CONFIG, &REQUEST, &REQUEST)?;
-    let gate = Meeting {
-        board: Board::new(),
-    };
-    runs_under(&rt, rt.alloc(), &mut depot, &gate)?;
-    assert!(rt; gate.board.is_in_time());
-    assert_eq!(rt; gate.board.bits.load(Ordering::SeqCst), 5);
-    let one = b"journal 2\n1000 tick\n1000 1 0 vlans\n1000 2 0 vlans\n".as_slice();
-    let other = b"journal 2\n1000 tick\n1000 2 0 vlans\n1000 1 0 vlans\n".as_slice();
-    let journal = depot.content("J");
-    assert!(rt; journal == Some(one) || journal == Some(other));
+    let gate = Watch::new(Hold::Meeting);
+    let wanted = (b"frames 2 entries 3\n".as_slice(), 0);
+    ends_under(&rt, rt.alloc(), &TWO_PORTS, &mut depot, &gate, wanted)?;
+    assert_met(&rt, &gate);
+    assert_either(&rt, depot.depot.content("J"));
     Ok(())
 }
 
@@ -185,10 +70,16 @@ fn of_other_node(alloc: Global) -> Result<Vec<u8>, Fail> {
     Ok(capture)
 }
 
-fn two_logins(alloc: Global) -> Result<MemDepot, Fail> {
+fn two_logins(alloc: Global) -> Result<Counter, Fail> {
     let first = login_and_request(alloc)?;
     let second = of_other_node(alloc)?;
     Ok(depot_of(alloc, &CONFIG, &first, &second)?)
+}
+
+// Nobody waited in vain, and the gate was told these addresses.
+fn assert_told(rt: &impl Abort, gate: &Watch, addresses: [u64; 2]) {
+    assert!(rt; gate.is_in_time());
+    assert_eq!(rt; [gate.address(0), gate.address(1)], addresses);
 }
 
 // The order that a gate forces stands in the journal, and the gate gets the addresses.
@@ -200,11 +91,11 @@ fn is_forced<R: Threads + Wait + Sync + Abort>(
     addresses: [u64; 2],
 ) -> Result<(), Fail> {
     let mut depot = two_logins(alloc)?;
-    let gate = Order::new(first);
-    runs_under(rt, alloc, &mut depot, &gate)?;
-    assert!(rt; gate.board.is_in_time());
-    assert_eq!(rt; [gate.address(0), gate.address(1)], addresses);
-    assert_eq!(rt; depot.content("J"), Some(journal.as_bytes()));
+    let gate = Watch::new(Hold::Order(first));
+    let wanted = (b"frames 4 entries 5\n".as_slice(), 0);
+    ends_under(rt, alloc, &TWO_PORTS, &mut depot, &gate, wanted)?;
+    assert_told(rt, &gate, addresses);
+    assert_journal(rt, &depot, journal);
     Ok(())
 }
 

@@ -1,10 +1,9 @@
 //! The command over real files, and with memory that is refused.
 ghost use Rattle.tool_process.specs.Edge.{KnowsAll};
 
-use crate::inputs::{CONFIG, words_in};
-use fab_base::{Depot, MemSink, word_at};
+use fab_base::{Depot, MemSink, NoMemory, word_at};
 use fabric_tool::Outcome;
-use std::alloc::{AllocGlobal, Global};
+use std::alloc::{AllocError, AllocGlobal, Global};
 use std::env::FillError;
 use std::os::unix::fs::symlink;
 use std::process::Abort;
@@ -14,6 +13,8 @@ use std::test::Fail;
 use std::thread::Threads;
 use std::{env, fs};
 use tool_process::{FileDepot, Spot, standard_output, status_of_process, words_of};
+
+const CONFIG: [u8; 35] = *b"fcf-mac 00:05:1e:00:00:02\nvlan 100\n";
 
 // A VLAN request of 00:1b:21:00:00:0a to All-FCF-MACs at 1000 ms.
 const REQUEST: [u8; 100] = [
@@ -37,6 +38,14 @@ const NOTIFICATION: [u8; 100] = [
 const ONE_PORT: [&str; 5] = ["run", "K", "J", "IN", "OUT"];
 
 const TWO_PORTS: [&str; 7] = ["run", "K", "J", "IN", "OUT", "IN2", "OUT2"];
+
+fn words_in(alloc: Global, words: &[&str]) -> Result<Vec<String>, NoMemory> {
+    let mut list = Vec::new(alloc);
+    for word in words {
+        list.push(String::from_str(alloc, word)?)?;
+    }
+    Ok(list)
+}
 
 // The status of a command over real files that knows its words.
 fn status_of_files<R: Threads + Wait + Sync + Files>(
@@ -79,20 +88,23 @@ fn ends_beside<R: Threads + Wait + Sync + Files + Abort>(
     Ok(())
 }
 
+// A file has these bytes.
+fn holds<R: Files + AllocGlobal + Abort>(rt: &R, name: &str, bytes: &[u8]) -> Result<(), Fail> {
+    assert_eq!(rt; fs::read(rt, name)?.as_slice(), bytes);
+    Ok(())
+}
+
 #[test]
 fn real_files(rt: HostRuntime) -> Result<(), Fail> {
-    let alloc = rt.alloc();
     fs::write(&rt, "K", &CONFIG)?;
     fs::write(&rt, "IN", &REQUEST)?;
     // What stands in the outputs before is no part of them afterwards, though it is longer.
-    let before = Vec::from_elem(alloc, 0u8, 200)?;
-    fs::write(&rt, "J", &before)?;
-    fs::write(&rt, "OUT", &before)?;
-    ends(&rt, alloc, &ONE_PORT, b"frames 1 entries 2\n", 0)?;
-    let (journal, capture) = (b"journal 2\n1000 tick\n1000 1 0 vlans\n", NOTIFICATION);
-    assert_eq!(rt; fs::read(&rt, "J")?.as_slice(), journal.as_slice());
-    assert_eq!(rt; fs::read(&rt, "OUT")?.as_slice(), capture.as_slice());
-    Ok(())
+    for name in ["J", "OUT"] {
+        fs::write(&rt, name, &[0; 200])?;
+    }
+    ends(&rt, rt.alloc(), &ONE_PORT, b"frames 1 entries 2\n", 0)?;
+    holds(&rt, "J", b"journal 2\n1000 tick\n1000 1 0 vlans\n")?;
+    holds(&rt, "OUT", &NOTIFICATION)
 }
 
 #[test]
@@ -187,9 +199,36 @@ fn is_kept<R: Threads + Wait + Sync + Files + AllocGlobal + Abort>(
 ) -> Result<(), Fail> {
     fs::write(rt, "TWICE", bytes)?;
     ends(rt, rt.alloc(), words, b"write fault\n", 4)?;
-    assert_eq!(rt; fs::read(rt, "TWICE")?.as_slice(), bytes);
     assert!(rt; !fs::exists(rt, "NEW")?);
-    Ok(())
+    holds(rt, "TWICE", bytes)
+}
+
+// Commands over TWICE and OTHER, and what stands in the file before.
+const OVER_TWO: [(&[&str], &[u8]); 6] = [
+    (&["run", "SET", "NEW", "TWICE", "OTHER"], &REQUEST),
+    (&["run", "SET", "OTHER", "TWICE", "NEW"], &REQUEST),
+    (&["run", "TWICE", "NEW", "ASKED", "OTHER"], &CONFIG),
+    (&["convert", "TWICE", "OTHER"], &SECTION),
+    (&["migrate", "TWICE", "OTHER"], b""),
+    (
+        &[
+            "make", "1", "NEW", "1", "TWICE", "3", "4", "OTHER", "6", "7", "8",
+        ],
+        &REQUEST,
+    ),
+];
+
+// The words with a name in the place of OTHER.
+fn with_other<'a>(
+    alloc: Global,
+    words: &[&'a str],
+    other: &'a str,
+) -> Result<Vec<&'a str>, AllocError> {
+    let mut named = Vec::new(alloc);
+    for word in words {
+        named.push(if *word == "OTHER" { other } else { word })?;
+    }
+    Ok(named)
 }
 
 // The commands over TWICE and another name of it.
@@ -197,49 +236,52 @@ fn commands_keep_it<R: Threads + Wait + Sync + Files + AllocGlobal + Abort>(
     rt: &R,
     other: &str,
 ) -> Result<(), Fail> {
-    let load = [
-        "make", "1", "NEW", "1", "TWICE", "3", "4", other, "6", "7", "8",
-    ];
-    is_kept(rt, &["run", "SET", "NEW", "TWICE", other], &REQUEST)?;
-    is_kept(rt, &["run", "SET", other, "TWICE", "NEW"], &REQUEST)?;
-    is_kept(rt, &["run", "TWICE", "NEW", "ASKED", other], &CONFIG)?;
-    is_kept(rt, &["convert", "TWICE", other], &SECTION)?;
-    is_kept(rt, &["migrate", "TWICE", other], b"")?;
-    is_kept(rt, &load, &REQUEST)
+    for (words, bytes) in OVER_TWO {
+        let named = with_other(rt.alloc(), words, other)?;
+        is_kept(rt, &named, bytes)?;
+    }
+    Ok(())
 }
 
-// The names are of this test's own, since all tests write into one folder.
+// The files of the test below, and links to them. The names are its own, since all tests write into
+// one folder.
+fn make_links<R: Files + AllocGlobal>(rt: &R) -> Result<(), Fail> {
+    fs::write(rt, "SET", &CONFIG)?;
+    fs::write(rt, "ASKED", &REQUEST)?;
+    fs::write(rt, "TWICE", b"")?;
+    fs::create_dir_all(rt, "folder")?;
+    for (to, name) in [
+        ("TWICE", "SOFT"),
+        ("folder/NEXT", "LINK"),
+        ("../NEW", "folder/NEXT"),
+    ] {
+        symlink(rt, to, name)?;
+    }
+    fs::hard_link(rt, "TWICE", "HARD")?;
+    Ok(())
+}
+
+// No file is written where a name of an output leads to one that isn't there yet by another way too,
+// or by a link through another folder and another link; a device may stand twice.
+fn files_to_come_are_kept<R: Threads + Wait + Sync + Files + AllocGlobal + Abort>(
+    rt: &R,
+) -> Result<(), Fail> {
+    for [journal, output] in [["NEW", "folder/../NEW"], ["LINK", "NEW"]] {
+        is_kept(rt, &["run", "SET", journal, "TWICE", output], &REQUEST)?;
+    }
+    let words = ["run", "SET", "/dev/null", "ASKED", "/dev/./null"];
+    ends(rt, rt.alloc(), &words, b"frames 1 entries 2\n", 0)
+}
+
 #[test]
 fn two_names_of_one_file(rt: HostRuntime) -> Result<(), Fail> {
-    fs::write(&rt, "SET", &CONFIG)?;
-    fs::write(&rt, "ASKED", &REQUEST)?;
-    fs::write(&rt, "TWICE", b"")?;
-    fs::create_dir_all(&rt, "folder")?;
-    symlink(&rt, "TWICE", "SOFT")?;
-    fs::hard_link(&rt, "TWICE", "HARD")?;
-    let absolute = env::current_dir(&rt)?.join(rt.alloc(), "TWICE")?;
-    for other in [
-        "./TWICE",
-        absolute.as_str(),
-        "folder/../TWICE",
-        "SOFT",
-        "HARD",
-    ] {
+    make_links(&rt)?;
+    for other in ["./TWICE", "folder/../TWICE", "SOFT", "HARD"] {
         commands_keep_it(&rt, other)?;
     }
-    // a file that isn't there yet
-    is_kept(
-        &rt,
-        &["run", "SET", "NEW", "TWICE", "folder/../NEW"],
-        &REQUEST,
-    )?;
-    // a link that leads to it, through another folder and another link
-    symlink(&rt, "folder/NEXT", "LINK")?;
-    symlink(&rt, "../NEW", "folder/NEXT")?;
-    is_kept(&rt, &["run", "SET", "LINK", "TWICE", "NEW"], &REQUEST)?;
-    // a device may stand twice
-    let words = ["run", "SET", "/dev/null", "ASKED", "/dev/./null"];
-    ends(&rt, rt.alloc(), &words, b"frames 1 entries 2\n", 0)
+    let absolute = env::current_dir(&rt)?.join(rt.alloc(), "TWICE")?;
+    commands_keep_it(&rt, absolute.as_str())?;
+    files_to_come_are_kept(&rt)
 }
 
 // Holds whichever allocation is refused (`rt try --test --fail-alloc N`): an output is as it was
