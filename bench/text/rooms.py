@@ -71,8 +71,8 @@ ALL = "all "  # begins a cell that forbids all crates: `all crates but ..`, or `
 
 
 def text(folder: pathlib.Path, parts: tuple[tuple[str, str], ...], remark: str) -> str:
-    """The files of some parts of a crate, without their remarks."""
-    files = sorted(file for part, kind in parts for file in (folder / part).rglob(f"*.{kind}"))
+    """The files of some parts of a crate, without its tests and their remarks."""
+    files = sorted(file for part, kind in parts for file in (folder / part).rglob(f"*.{kind}") if file.stem != "tests")
     return "\n".join(re.sub(rf"{remark}.*", "", file.read_text(encoding="utf-8")) for file in files)
 
 

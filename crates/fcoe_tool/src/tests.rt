@@ -124,8 +124,7 @@ fn statuses_of_a_process(rt: HostRuntime) -> Result<(), Fail> {
     for (words, line, wanted) in rows {
         ends(&rt, alloc, words, line, wanted)?;
     }
-    assert!(rt; !fs::exists(&rt, "NONE")?);
-    Ok(())
+    assert_unmade(&rt, "NONE")
 }
 
 // A process that was started with these words.
@@ -155,21 +154,19 @@ impl Env for Started<'_> {
     }
 }
 
+// How many words a process that was started with these has, or how it ends without.
+fn count_of(alloc: Global, words: &[&[u8]]) -> Result<usize, Outcome> {
+    let told = words_of(&(Started { words }, alloc))?;
+    Ok(told.len())
+}
+
 // All words behind the first come, however many there are, and one that isn't UTF-8 is no word.
 #[test]
 fn words_of_a_process(rt: HostRuntime) -> Result<(), Fail> {
-    let alloc = rt.alloc();
-    let mut words: Vec<&[u8]> = Vec::new(alloc);
-    for _ in 0..200 {
-        words.push(b"K")?;
-    }
-    let started = Started { words: &words };
-    let told = words_of(&(started, alloc)).ok().ok_or("words")?;
-    assert_eq!(rt; told.len(), 199);
-    words.push(b"\xff")?;
-    let faulty = Started { words: &words };
-    let told = words_of(&(faulty, alloc));
-    assert!(rt; matches!(told, Err(Outcome::Words)));
+    let mut words = [b"K".as_slice(); 200];
+    assert!(rt; matches!(count_of(rt.alloc(), &words), Ok(199)));
+    words[199] = b"\xff";
+    assert!(rt; matches!(count_of(rt.alloc(), &words), Err(Outcome::Words)));
     Ok(())
 }
 
@@ -181,8 +178,7 @@ fn the_standard_output_is_no_output(rt: HostRuntime) -> Result<(), Fail> {
     let words = ["run", "PLAIN", "UNMADE", "HEARD", "/dev/stdout"];
     let printed = standard_output(&rt);
     ends_beside(&rt, rt.alloc(), &words, &printed, (b"", 4))?;
-    assert!(rt; !fs::exists(&rt, "UNMADE")?);
-    Ok(())
+    assert_unmade(&rt, "UNMADE")
 }
 
 // A pcapng file without packets: a section header of version 1.0 and unknown length.
@@ -190,6 +186,11 @@ const SECTION: [u8; 28] = [
     10, 13, 13, 10, 28, 0, 0, 0, 0x4d, 0x3c, 0x2b, 0x1a, 1, 0, 0, 0, //
     255, 255, 255, 255, 255, 255, 255, 255, 28, 0, 0, 0,
 ];
+
+fn assert_unmade<R: Files + Abort>(rt: &R, name: &str) -> Result<(), Fail> {
+    assert!(rt; !fs::exists(rt, name)?);
+    Ok(())
+}
 
 // A command over two names of one file opens no output, and the file is as it was.
 fn is_kept<R: Threads + Wait + Sync + Files + AllocGlobal + Abort>(
@@ -199,7 +200,7 @@ fn is_kept<R: Threads + Wait + Sync + Files + AllocGlobal + Abort>(
 ) -> Result<(), Fail> {
     fs::write(rt, "TWICE", bytes)?;
     ends(rt, rt.alloc(), words, b"write fault\n", 4)?;
-    assert!(rt; !fs::exists(rt, "NEW")?);
+    assert_unmade(rt, "NEW")?;
     holds(rt, "TWICE", bytes)
 }
 
@@ -284,29 +285,40 @@ fn two_names_of_one_file(rt: HostRuntime) -> Result<(), Fail> {
     files_to_come_are_kept(&rt)
 }
 
+// Opens FIRST and SECOND, and puts a byte and more into the first, if memory is there.
+fn put_first<R: Files + AllocGlobal + Abort>(
+    rt: &R,
+    depot: &mut FileDepot<'_, R>,
+    words: &[String],
+) -> Result<(), Fail>
+    requires { KnowsAll depot.old.desk words.now }
+{
+    assert_eq!(rt; words.len(), 3);
+    let Ok(first) = depot.open_out(word_at(words, 1)) else {
+        return Ok(());
+    };
+    let opened = depot.open_out(word_at(words, 2)).is_ok();
+    are(rt, ["before", "before"])?;
+    if depot.put(first, b"after").is_err() {
+        return Ok(());
+    }
+    are(rt, ["after", if opened { "" } else { "before" }])
+}
+
 // Holds whichever allocation is refused (`rt try --test --fail-alloc N`): an output is as it was
 // until the first byte is written.
 #[test]
 fn no_file_is_emptied_before_a_byte_comes(rt: HostRuntime) -> Result<(), Fail> {
-    let alloc = rt.alloc();
-    fs::write(&rt, "FIRST", b"before")?;
-    fs::write(&rt, "SECOND", b"before")?;
-    let Ok(words) = words_in(alloc, &["run", "FIRST", "SECOND"]) else {
-        return Ok(());
-    };
-    assert_eq!(rt; words.len(), 3);
-    let Ok(mut depot) = FileDepot::new(&rt, alloc, &words, &Spot::Other) else {
-        return Ok(());
-    };
-    let Ok(first) = depot.open_out(word_at(&words, 1)) else {
-        return Ok(());
-    };
-    let opened = depot.open_out(word_at(&words, 2)).is_ok();
-    are(&rt, ["before", "before"])?;
-    if depot.put(first, b"after").is_err() {
-        return Ok(());
+    for name in ["FIRST", "SECOND"] {
+        fs::write(&rt, name, b"before")?;
     }
-    are(&rt, ["after", if opened { "" } else { "before" }])
+    let Ok(words) = words_in(rt.alloc(), &["run", "FIRST", "SECOND"]) else {
+        return Ok(());
+    };
+    match FileDepot::new(&rt, rt.alloc(), &words, &Spot::Other) {
+        Ok(mut depot) => put_first(&rt, &mut depot, &words),
+        Err(NoMemory) => Ok(()),
+    }
 }
 
 // What FIRST and SECOND hold; memory to read them may be refused.

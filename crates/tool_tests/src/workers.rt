@@ -76,8 +76,8 @@ fn two_logins(alloc: Global) -> Result<Counter, Fail> {
     Ok(depot_of(alloc, &CONFIG, &first, &second)?)
 }
 
-// Nobody waited in vain, and the gate was told these addresses.
-fn assert_told(rt: &impl Abort, gate: &Watch, addresses: [u64; 2]) {
+// Nobody waited in vain, and the gate got these addresses.
+fn assert_granted(rt: &impl Abort, gate: &Watch, addresses: [u64; 2]) {
     assert!(rt; gate.is_in_time());
     assert_eq!(rt; [gate.address(0), gate.address(1)], addresses);
 }
@@ -94,7 +94,7 @@ fn is_forced<R: Threads + Wait + Sync + Abort>(
     let gate = Watch::new(Hold::Order(first));
     let wanted = (b"frames 4 entries 5\n".as_slice(), 0);
     ends_under(rt, alloc, &TWO_PORTS, &mut depot, &gate, wanted)?;
-    assert_told(rt, &gate, addresses);
+    assert_granted(rt, &gate, addresses);
     assert_journal(rt, &depot, journal);
     Ok(())
 }
