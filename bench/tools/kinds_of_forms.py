@@ -25,7 +25,7 @@ def tunnel(lot: random.Random, protocol: int, inner: bytes) -> bytes:
     """An IPv4 packet in Ethernet."""
     head = struct.pack(">BBHHHBBH4s4s", 0x45, 0, 20 + len(inner), lot.randrange(65536), 0, 64, protocol, 0, lot.randbytes(4), lot.randbytes(4))
     total = sum(struct.unpack(">10H", head))
-    check = 0xFFFF ^ ((total & 0xFFFF) + (total >> 16))
+    check = 0xFFFF - (total - 1) % 0xFFFF - 1  # the complement of a sum whose carries come back in
     return wire.ethernet(lot.randbytes(6), lot.randbytes(6), 0x0800, head[:10] + struct.pack(">H", check) + head[12:] + inner)
 
 

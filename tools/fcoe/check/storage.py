@@ -73,7 +73,9 @@ def told_tasks(talk: Talk) -> Iterator[Task]:
             continue
         content = fc.payload
         made = Task(one, number(content[28:32]), content[11] & 3, content[10])
-        for it in one.frames[1:]:
+        for before, it in zip(one.frames, one.frames[1:]):
+            if it.clock - before.clock > PATIENCE and talk.longest_rest(before.clock, it.clock) > PATIENCE:
+                break  # the capture may have a gap there, in which another command took the OX_ID
             head = it.heard.fc
             if head is not None and head.kind == FCP:
                 made.take(it, head, bool(head.f_ctl & 0x800000))

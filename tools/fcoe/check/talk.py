@@ -22,6 +22,7 @@ LOGIN_SIZE = 116  # bytes of a PLOGI and of its accept
 UNANSWERED = ("LOGO", "TEST")  # who has no login may not answer the one, and nobody answers the other
 LONGEST = 65535  # bytes of a frame: a length on the wire that is spoiled takes no room
 LATE, REGULAR = 1.6, 4  # periods without a keep alive, and how many come on time for each that doesn't, for one to be lost
+SERVICES, PROMPT = 0xFF0000, 10_000  # addresses of the fabric's services, and milliseconds within which these answer
 PERIODS = 2.5  # advertised periods of silence that end a link (FC-BB-5)
 
 
@@ -473,7 +474,9 @@ class Talk:
         return False
 
     def is_known(self, fc: Fc, it: Shown) -> bool:
-        """One of both ends logged in at the fabric within the capture, more than R_A_TOV ago."""
+        """One of both ends logged in at the fabric within the capture, more than R_A_TOV ago; or a service answers, which does so at once, long behind the begin."""
+        if fc.s_id >= SERVICES and self.is_two_way and it.clock - self.frames[0].clock > PROMPT:
+            return True
         return any(one.granted.clock < it.clock - 20_000 and one.address in (fc.s_id, fc.d_id) for one in self.grants)
 
     def signs_of_beats(self) -> Iterator[Sign]:

@@ -12,7 +12,7 @@ from typing import Callable, Iterable, Optional, Sequence
 
 from ..errors import counted
 from .columns import MILLISECOND, Flow, Frames
-from .heard import ADVERTISE, ALL_ENODES, Heard, hear, number
+from .heard import ADVERTISE, ALL_ENODES, SOLICIT, VLAN_REQUEST, Heard, hear, number
 from .order import RESPONDER, Ordered, in_order
 
 SEQUENCE = 4  # bytes of an Ethernet check sequence
@@ -168,18 +168,20 @@ def sequence_holes(frames: Frames, switches: set[bytes], found: Tidy) -> None:
 
 
 def advertisement_holes(frames: Frames, switches: set[bytes], found: Tidy) -> None:
-    """An advertisement that fails, where those around it come on time."""
+    """An advertisement that fails, where those around it come on time, and no host begins anew between, whose link was down."""
     told: dict[tuple[bytes, int], list[tuple[int, int]]] = {}
-    period = 0
+    period, begins = 0, list[int]()
     for at in frames.messages():
         heard = frames.heard(at)
+        if heard.operation in (VLAN_REQUEST, SOLICIT):
+            begins.append(at)
         if heard.operation == ADVERTISE and heard.destination == ALL_ENODES:
             told.setdefault((heard.source, heard.vlan), []).append((at, frames.moments[at]))
             part = heard.descriptor(12)
             period = number(part.data[4:8]) * MILLISECOND if part and len(part.data) >= 8 else period
     for (source, _), some in told.items():
         gaps = [two[1] - one[1] for one, two in zip(some, some[1:])]
-        late = [at for at, gap in enumerate(gaps) if period and LATE * period < gap < 4 * period]
+        late = [it for it, gap in enumerate(gaps) if period and LATE * period < gap < 4 * period and bisect_left(begins, some[it][0]) == bisect_left(begins, some[it + 1][0])]
         found.accounted += len(gaps) - len(late)
         if late and len(gaps) - len(late) >= REGULAR * len(late):
             found.holes += [Hole(some[it + 1][0], source in switches, f"an advertisement fails before frame {frames.number(some[it + 1][0])}") for it in late]
