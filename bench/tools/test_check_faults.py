@@ -47,7 +47,8 @@ def test_names_are_distinct() -> None:
 
 def one_a_rule() -> list[Fault]:
     """Faults that are found, for each rule that one is found by; those of one rule first."""
-    some, seen = [], set()
+    some: list[Fault] = []
+    seen: set[str] = set()
     for it in sorted(FAULTS, key=lambda it: it.rules.count(" ")):
         rules = set(it.rules.split())
         if expected(it) == "found" and not rules <= seen:

@@ -4,7 +4,8 @@ from typing import Iterator, Optional
 
 from ..check.command import GROUPS
 from ..check.rules import ENODE, FCF, Fault, Rule, Tally, held_against
-from ..check.talk import Shown, Talk, talks_on, whole_of
+from ..check.shown import Shown
+from ..check.talk import Talk, talks_on, whole_of
 from ..errors import counted
 from ..runs.inputs import Port
 from ..runs.looking import Look

@@ -6,7 +6,8 @@ from ..runs.configs import FPMA
 from .discovery import destination_of, shown, vlan_of
 from .habits import agree, by_address, odd_macs, stretches
 from .rules import ONE_WAY, Fault, Group, Tally, want
-from .talk import Grant, Shown, Talk, mac_in
+from .shown import Shown, mac_in
+from .talk import Grant, Talk
 
 IN_FLIGHT = 2000  # milliseconds (E_D_TOV) within which a frame may have crossed what ended its login
 EARLIER = "the ENode may have logged in before the capture began"

@@ -6,7 +6,8 @@ from ..runs.configs import FPMA
 from .discovery import destination_of, has_kinds, shown, vlan_of
 from .habits import Say, judge_names, lot_of, stretches
 from .rules import ONE_WAY, Fault, Group, Tally, want
-from .talk import PERIODS, Shown, Talk, mac_in, period_in, vx_in
+from .shown import Shown, mac_in, period_in, vx_in
+from .talk import PERIODS, Talk
 
 PORT_PERIOD = 90_000  # FKA_VN_PERIOD in milliseconds
 LATE = 1.5  # periods behind which one may be missing from the capture

@@ -2,10 +2,12 @@
 from typing import Iterator, Optional
 
 from ..frames.heard import Fc, fcid
+from .exchanged import Exchange
 from .habits import judge_names, names_of
 from .login import LOGIN_SIZE, login_faults, port_faults
 from .rules import Fault, Group, Tally, want
-from .talk import Exchange, Grant, Shown, Talk
+from .shown import Shown
+from .talk import Talk
 
 ACCEPT, REJECT = b"\x02", b"\x01"
 PRLI_SIZE, ADISC_SIZE, RTV_SIZE, RLS_SIZE, REJECT_SIZE = 20, 28, 16, 28, 8
@@ -36,10 +38,6 @@ def shaped(talk: Talk, size: int, kinds: tuple[str, ...], begin: bytes = b"") ->
             yield it, fc
 
 
-def login_of(talk: Talk, it: Shown, fc: Fc) -> Optional[Grant]:
-    return next((grant for grant in reversed(talk.grants) if grant.address == fc.s_id and grant.granted.at < it.at), None)
-
-
 def sized(fc: Fc, size: int) -> Optional[Fault]:
     return want("payload", f"{len(fc.payload)} bytes", f"{size} bytes or more", len(fc.payload) >= size)
 
@@ -51,7 +49,7 @@ def plogi_accept(talk: Talk, tally: Tally) -> None:
             tally.judge(it, sized(fc, LOGIN_SIZE))
             continue
         tally.judge(it, *login_faults(fc.payload), *port_faults(fc.payload))
-        held = login_of(talk, it, fc)
+        held = talk.login_of(fc.s_id, it.at, is_live=False)
         asked = held.request if held else None
         node = asked.known[28:36] if asked else b""
         if held and any(held.name):
@@ -119,7 +117,7 @@ def named(talk: Talk, it: Shown, fc: Fc, tally: Tally) -> None:
         tally.judge(it, sized(fc, ADISC_SIZE))
         return
     tally.judge(it, want("address in the payload", fc.payload[25:28].hex(), fcid(fc.s_id)))
-    held = login_of(talk, it, fc)
+    held = talk.login_of(fc.s_id, it.at, is_live=False)
     if held and any(held.name):
         tally.lack(held, it, want("port name", fc.payload[8:16].hex(), held.name.hex()), missing=2)
     elif not talk.is_two_way:

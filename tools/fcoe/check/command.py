@@ -18,7 +18,8 @@ from ..terminal import Colour, folded, painted
 from ..waivers import Waiver, today
 from . import address, alive, answers, discovery, exchange, forwarder, frames, headers, login, names, storage
 from .rules import BROKEN, ENODE, FCF, HELD, OPEN, STATES, UNSEEN, Group, Rule, Tally, held_against
-from .talk import Shown, Talk, shown_of, talks_on, whole_of
+from .shown import Shown
+from .talk import Talk, shown_of, talks_on, whole_of
 
 GROUPS: list[Group] = [it.RULES for it in (discovery, login, address, alive, frames, headers, exchange, answers, storage, names, forwarder)]
 COLOURS = {BROKEN: Colour.BAD, OPEN: Colour.MIND, HELD: Colour.GOOD, UNSEEN: Colour.NOISE}

@@ -5,7 +5,8 @@ from ..frames.codes import descriptors_text
 from ..frames.heard import ADVERTISE, ALL_FCFS, KEEP_ALIVE, LOGIN, SOLICIT, VLAN_REQUEST, VLAN_TELL, Heard, colons, number
 from .habits import strayed, stretches
 from .rules import ONE_WAY, Fault, Group, Tally, want
-from .talk import Shown, Talk, mac_in
+from .shown import Shown, mac_in
+from .talk import Talk
 
 FP, SP, AVAILABLE, SOLICITED, FROM_FORWARDER = 0x8000, 0x4000, 0x0004, 0x0002, 0x0001
 LENGTHS = {1: 4, 2: 8, 3: 8, 4: 12, 5: 16, 6: 4, 11: 20, 12: 8, 13: 12, 14: 4}  # bytes of each descriptor

@@ -2,10 +2,12 @@
 from typing import Iterator
 
 from ..frames.heard import Fc, fcid
+from .exchanged import UNANSWERED, Exchange
 from .habits import judge_names
 from .login import LOGO_SIZE, login_faults, port_faults
 from .rules import LEFT, ONE_WAY, Fault, Group, Tally, want
-from .talk import UNANSWERED, Exchange, Shown, Talk
+from .shown import Shown
+from .talk import Talk
 
 E_D_TOV, R_A_TOV = 2_000, 10_000  # milliseconds: the usual ones
 PATIENCE = 2 * R_A_TOV  # of a link service without an answer
@@ -83,7 +85,7 @@ def never_ended(talk: Talk, tally: Tally) -> None:
             tally.leave("no answer until the capture ends", one.request)
         elif ended_between(talk, one, until):
             tally.held.append(one.request)
-        elif any(it.heard.kind == "RSCN" for it in talk.within(one.request.clock, until) if it.is_switch):
+        elif talk.moments(True, "RSCN").within(one.request.clock, until):
             tally.leave("an RSCN came meanwhile, behind which the ENode may know that nobody is there", one.request)
         else:
             fault = Fault("exchange", f"no answer and no ABTS until the capture ends, {(talk.end - one.request.clock) / 1000:.0f} s later", "an ABTS after twice R_A_TOV")
@@ -95,7 +97,7 @@ def asked_of_host(talk: Talk) -> Iterator[Exchange]:
     for one in talk.exchanges.all:
         fc = one.request.fc
         if one.request.is_switch and one.request.heard.is_fcoe and fc is not None and fc.r_ctl == 0x22 and one.request.heard.kind != "TEST":
-            if any(grant.address == fc.d_id for grant in talk.live(one.request.at)):
+            if talk.login_of(fc.d_id, one.request.at):
                 yield one
 
 
@@ -150,8 +152,8 @@ def rscn_heeded(talk: Talk, tally: Tally) -> None:
     for one in asked_of_host(talk):
         if one.request.heard.kind != "RSCN" or not one.reply or one.reply.payload[:1] != b"\x02":
             continue
-        after = talk.within(one.request.clock, one.request.clock + SOON)
-        asked = next((it for it in after if it.at > one.request.at and not it.is_switch and it.heard.kind in QUERIES), None)
+        after = talk.moments(False, *QUERIES).within(one.request.clock, one.request.clock + SOON)
+        asked = next((it for it in after if it.at > one.request.at), None)
         if asked:
             tally.held.append(asked)
         elif talk.end < one.request.clock + SOON:
@@ -177,7 +179,7 @@ def plogi(talk: Talk, tally: Tally) -> None:
 
 def logged(talk: Talk, it: Shown, fc: Fc) -> tuple[bool, bool]:
     """Whether a PLOGI between both ends stands before a frame, and whether it was accepted; both since the grant of the address."""
-    grant = next((one for one in reversed(talk.grants) if one.address == fc.s_id and one.granted.at < it.at), None)
+    grant = talk.login_of(fc.s_id, it.at, is_live=False)
     since = grant.granted.at if grant else -1
     ended = [one.request.at for one in talk.exchanges.between(fc, "LOGO", it.at)]
     since = max([since, *ended])
@@ -277,7 +279,7 @@ def logo(talk: Talk, tally: Tally) -> None:
             if len(payload) < LOGO_SIZE:
                 tally.judge(it, Fault("payload", f"{len(payload)} bytes", f"{LOGO_SIZE} bytes"))
                 continue
-            held = next((grant for grant in talk.live(it.at) if grant.address == fc.s_id), None)
+            held = talk.login_of(fc.s_id, it.at)
             tally.judge(
                 it,
                 want("address in the payload", payload[5:8].hex(), fcid(fc.s_id)),
@@ -324,9 +326,10 @@ def abts_known(talk: Talk, tally: Tally) -> None:
 def abts_answered(talk: Talk, tally: Tally) -> None:
     for it in talk.by_switch("ABTS"):
         fc = it.heard.fc
-        if fc is None or not any(grant.address == fc.d_id for grant in talk.live(it.at)):
+        if fc is None or not talk.login_of(fc.d_id, it.at):
             continue
-        reply = next((one for one in talk.within(it.clock, talk.end) if one.at > it.at and not one.is_switch and one.heard.kind in ("BA_ACC", "BA_RJT") and one.fc and one.fc.ox_id == fc.ox_id and one.fc.d_id == fc.s_id), None)
+        answers = talk.moments(False, "BA_ACC", "BA_RJT").within(it.clock, talk.end)
+        reply = next((one for one in answers if one.at > it.at and one.fc and one.fc.ox_id == fc.ox_id and one.fc.d_id == fc.s_id), None)
         if reply:
             tally.judge(reply, want("answer", f"{(reply.clock - it.clock) / 1000:.1f} s after the ABTS", "within twice R_A_TOV", reply.clock - it.clock <= PATIENCE))
         elif talk.end - it.clock < PATIENCE or talk.gave_up(fc.d_id, it.clock, it.clock + PATIENCE):

@@ -1,13 +1,15 @@
 """Rules on the forwarder, where its frames are in the capture (FC-BB-5, FC-LS-2, FC-FS-3)."""
 
-from ..frames.heard import ADVERTISE, ALL_ENODES, CLEAR, LOGIN_REPLY, SOLICIT, VLAN_TELL, colons, fc_check, fcid, granted_in, number
+from ..frames.heard import ADVERTISE, ALL_ENODES, CLEAR, LOGIN_REPLY, VLAN_TELL, colons, fc_check, fcid, granted_in, number
 from ..runs.configs import FPMA
 from .alive import SURE
 from .discovery import FROM_FORWARDER, SOLICITED, has_kinds
 from .exchange import PATIENCE, R_A_TOV, ended_between
+from .exchanged import RESPONDER
 from .frames import sizes
 from .rules import FCF, Fault, Group, Tally, want
-from .talk import PERIODS, RESPONDER, Shown, Talk, mac_in, period_in
+from .shown import Shown, mac_in, period_in
+from .talk import PERIODS, Talk
 
 MESSAGES = {ADVERTISE: (1, 2, 4, 5, 12), CLEAR: (2, 4), VLAN_TELL: (2,)}
 LATE = 1.5
@@ -47,7 +49,7 @@ def padded(talk: Talk, tally: Tally) -> None:
     for it in talk.advertisements:
         if not it.heard.flags & SOLICITED:
             continue
-        asked = [one for one in talk.own if one.heard.operation == SOLICIT and one.at < it.at and one.heard.source == it.heard.destination]
+        asked = [one for one in talk.of("Solicitation") if one.at < it.at and one.heard.source == it.heard.destination]
         size = asked[-1].heard.descriptor(6) if asked else None
         if size:
             length, wanted = it.port.frames.lengths[it.at], number(size.data[2:4])
@@ -181,7 +183,7 @@ def answered(talk: Talk, tally: Tally) -> None:
 def judge_unanswered(talk: Talk, it: Shown, tally: Tally) -> None:
     """A request that came from nobody who is logged in may be dropped."""
     fc = it.heard.fc
-    is_heard = it.heard.is_fip and not it.heard.destination[0] & 1 or any(fc and grant.address == fc.s_id for grant in talk.live(it.at))
+    is_heard = it.heard.is_fip and not it.heard.destination[0] & 1 or fc is not None and talk.login_of(fc.s_id, it.at) is not None
     if is_heard and not it.heard.is_fip:
         tally.lack(it, it, Fault("answer", "none", "an accept or a reject"))
     else:

@@ -5,8 +5,10 @@ from typing import Iterator, Optional
 
 from ..frames.fields import DELIMITERS, delimiter
 from ..frames.heard import EOFN, EOFT, SOFI3, SOFN3, Fc, fc_check, fcid, number
+from .exchanged import END_SEQUENCE, RESPONDER
 from .rules import ONE_WAY, Fault, Group, Tally, want
-from .talk import END_SEQUENCE, RESPONDER, Shown, Talk
+from .shown import Shown
+from .talk import Talk
 
 SHORTEST, LONGEST_PAYLOAD = 60, 2112
 FIRST_SEQUENCE, INITIATIVE, OFFSET_HELD, FILL = 0x200000, 0x010000, 0x000008, 3

@@ -4,8 +4,10 @@ from dataclasses import dataclass, field
 from typing import Callable, Hashable, Optional
 
 from ..frames.heard import Fc
+from .exchanged import LOGIN_SIZE
 from .rules import ONE_WAY, Fault, Tally
-from .talk import LOGIN_SIZE, Shown, Talk, vx_in
+from .shown import Shown, vx_in
+from .talk import Talk
 
 MANY = 4  # times as many frames say so as say otherwise
 FEW = 3  # frames that say otherwise, behind which it may be another login that isn't there

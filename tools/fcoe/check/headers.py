@@ -3,8 +3,10 @@ from typing import Iterator, Optional
 
 from ..frames.fields import delimiter
 from ..frames.heard import SOFI3, SOFN3, Fc, fc_check, fcid, number
+from .exchanged import ACKNOWLEDGES, END_SEQUENCE, LAST_SEQUENCE, RESPONDER
 from .rules import Group, Tally, want
-from .talk import ACKNOWLEDGES, END_SEQUENCE, LAST_SEQUENCE, RESPONDER, Shown, Talk
+from .shown import Shown
+from .talk import Talk
 
 SOFI2, SOFN2, EOFN, EOFT, EOFA = 0x2D, 0x35, 0x41, 0x42, 0x50
 INITIATIVE, OFFSET_HELD = 0x010000, 0x000008

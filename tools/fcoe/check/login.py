@@ -5,7 +5,8 @@ from ..frames.heard import FABRIC_PORT, LOGIN_REPLY, Fc, colons, fcid, number
 from .discovery import BEHIND, FP, SOON, SP, has_kinds
 from .habits import judge_names, mac_before
 from .rules import CUT, LEFT, ONE_WAY, Fault, Group, Tally, want
-from .talk import Shown, Talk, mac_in
+from .shown import Shown, mac_in
+from .talk import Talk
 
 COMMANDS = {"FLOGI": 0x04, "FDISC": 0x51, "LOGO": 0x05}
 DESCRIPTOR = {"FLOGI": 7, "FDISC": 8, "LOGO": 9}
@@ -155,7 +156,7 @@ def logged_out(talk: Talk, tally: Tally) -> None:
         if len(payload) < LOGO_SIZE:
             tally.judge(it, Fault("payload", f"{len(payload)} bytes", f"{LOGO_SIZE} bytes"))
             continue
-        held = next((grant for grant in talk.live(it.at) if grant.address == fc.s_id), None)
+        held = talk.login_of(fc.s_id, it.at)
         mac = mac_in(it.heard)
         tally.judge(
             it,

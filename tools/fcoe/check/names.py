@@ -4,7 +4,8 @@ from typing import Iterator
 from ..frames.heard import CONTROLLER, CT, NAME_SERVER, Fc, fcid, number
 from .exchange import behind_plogi
 from .rules import Fault, Group, Tally, want
-from .talk import Shown, Talk
+from .shown import Shown
+from .talk import Talk
 
 PREAMBLE = 16
 # bytes behind the preamble of each request; of symbolic names up to their length byte

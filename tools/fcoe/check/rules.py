@@ -3,7 +3,8 @@ from dataclasses import dataclass, field
 from typing import Callable, Hashable, Optional
 
 from .clauses import clauses_of, word_of
-from .talk import Shown, Talk
+from .shown import Shown
+from .talk import Talk
 
 HELD, BROKEN, UNSEEN, OPEN = "held", "broken", "not seen", "can't be told"
 STATES = (BROKEN, OPEN, HELD, UNSEEN)

@@ -4,8 +4,10 @@ from typing import Iterator, Optional
 
 from ..frames.heard import Fc, fcid, number
 from .exchange import ended_between, judge_alone
+from .exchanged import END_SEQUENCE, Exchange, is_alike
 from .rules import CUT, ONE_WAY, Fault, Group, Tally, want
-from .talk import END_SEQUENCE, Exchange, Shown, Talk, is_alike
+from .shown import Shown
+from .talk import Talk
 
 FCP, COMMAND, DATA, READY, RESPONSE = 0x08, 0x06, 0x01, 0x05, 0x07
 WRITES, READS = 0x01, 0x02
@@ -258,7 +260,7 @@ def open_until(talk: Talk, task: Task) -> Optional[str]:
 def responded(talk: Talk, tally: Tally) -> None:
     for task in tasks(talk):
         fc = task.one.request.fc
-        if not task.one.request.is_switch or fc is None or not any(grant.address == fc.d_id for grant in talk.live(task.one.request.at)):
+        if not task.one.request.is_switch or fc is None or not talk.login_of(fc.d_id, task.one.request.at):
             continue
         why = open_until(talk, task)
         if task.response:

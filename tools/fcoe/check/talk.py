@@ -1,93 +1,26 @@
 """What ENodes and the switch said to each other on a port, in order, with exchanges and grants: what the rules of `look check` are judged over."""
-from bisect import bisect_left, bisect_right
 from dataclasses import dataclass, field
 from functools import cached_property
 from itertools import accumulate
-from typing import Any, ClassVar, Hashable, Iterator, Optional
+from typing import Any, Hashable, Iterator, Optional
 
 from ..frames.columns import MILLISECOND
-from ..frames.heard import ADVERTISE, ALL_ENODES, CLEAR, KEEP_ALIVE, LOGIN, LOGIN_REPLY, Fc, Heard, colons, granted_in, hear, login_names, number
+from ..frames.heard import ADVERTISE, ALL_ENODES, CLEAR, KEEP_ALIVE, LOGIN, LOGIN_REPLY, Fc, Heard, colons, granted_in, login_names
 from ..progress import PROGRESS
 from ..runs.configs import FPMA
 from ..runs.enodes import enodes_of
 from ..runs.inputs import Port
+from .exchanged import UNANSWERED, Exchange, Exchanges
+from .shown import Shown, Timed, mac_in, period_in, vx_in
 from .sieve import Sieve
 
 SIFTED = 20_000  # frames of a port from which on alike ones are left out
 KEPT = 50_000  # frames that are looked at, up to which they stay decoded
-RESPONDER, LAST_SEQUENCE, END_SEQUENCE = 0x800000, 0x100000, 0x080000
-REQUESTS = (0x22, 0x02, 0x06)  # R_CTL of what begins an exchange: a link service, a CT_IU, an FCP command
-ANSWERS_TO_ABTS, ACKNOWLEDGES = ("BA_ACC", "BA_RJT"), 0xC0
-LOGIN_SIZE = 116  # bytes of a PLOGI and of its accept
-UNANSWERED = ("LOGO", "TEST")  # who has no login may not answer the one, and nobody answers the other
-LONGEST = 65535  # bytes of a frame: a length on the wire that is spoiled takes no room
 LATE, REGULAR = 1.6, 4  # periods without a keep alive, and how many come on time for each that doesn't, for one to be lost
 SERVICES, PROMPT = 0xFF0000, 10_000  # addresses of the fabric's services, and milliseconds within which these answer
 PERIODS = 2.5  # advertised periods of silence that end a link (FC-BB-5)
-
-
-class Decoded:
-    """What a frame is, read anew each time; a frame that keeps it has it in its own dictionary, which comes first."""
-
-    def __get__(self, it: "Shown", _owner: type) -> Heard:
-        frames = it.port.frames
-        return frames.heard(it.at) if it.is_whole else hear(frames.data(it.at).ljust(min(frames.lengths[it.at], LONGEST), b"\0"))
-
-
-@dataclass(eq=False)
-class Shown:
-    """A frame of a capture: where it stands, its moment in milliseconds, and whether the switch sent it."""
-
-    port: Port
-    at: int
-    clock: float
-    is_switch: bool
-    heard: ClassVar[Decoded] = Decoded()
-
-    def keep(self) -> "Shown":
-        """Stays decoded."""
-        self.__dict__["heard"] = self.heard
-        return self
-
-    @property
-    def fc(self) -> Optional[Fc]:
-        return self.heard.fc
-
-    @property
-    def number(self) -> int:
-        """As Wireshark shows it; below 0 that of a frame in the output of a run."""
-        return self.port.frames.number(self.at)
-
-    @property
-    def place(self) -> str:
-        return str(self.number) if self.number > 0 else f"{-self.number} of out{self.port.number}"
-
-    @property
-    def payload(self) -> bytes:
-        return self.heard.fc.payload if self.heard.fc else b""
-
-    @property
-    def is_whole(self) -> bool:
-        return self.port.frames.is_whole(self.at)
-
-    @property
-    def known(self) -> bytes:
-        """The payload, where nothing of the frame is cut off: what rules on other frames may read of it."""
-        return self.payload if self.is_whole else b""
-
-
-@dataclass(eq=False)
-class Exchange:
-    """The frames of an exchange: the request, what followed it, and the frame that ended it."""
-
-    request: Shown
-    frames: list[Shown] = field(default_factory=list)
-    reply: Optional[Shown] = None
-    ended: Optional[Shown] = None
-    aborted: Optional[Shown] = None
-    reused: Optional[Shown] = None  # a further request with its OX_ID while it was open
-    surplus: list[Shown] = field(default_factory=list)  # further ends of it that are no copies
-    settled: Optional[Shown] = None  # the answer to its ABTS
+ENDS = ("FLOGI", "Solicitation", "VLAN request", "Clear links")  # in FIP: with these a login of an ENode is over
+AT_ONCE = 2_000  # milliseconds within which what has another OX_ID answers a request
 
 
 @dataclass(eq=False)
@@ -132,145 +65,6 @@ class Silence:
 USUAL_MAP = FPMA + bytes(1)
 
 
-def mac_in(heard: Heard) -> Optional[bytes]:
-    """The MAC of a message's MAC descriptor."""
-    found = heard.descriptor(2)
-    return found.data[2:8] if found and len(found.data) >= 8 else None
-
-
-def vx_in(heard: Heard) -> list[tuple[bytes, int, bytes]]:
-    """MAC, address and port name of each Vx_Port descriptor."""
-    return [(it.data[2:8], number(it.data[9:12]), it.data[12:20]) for it in heard.descriptors if it.kind == 11 and len(it.data) >= 20]
-
-
-def period_in(heard: Heard) -> Optional[tuple[int, bool]]:
-    """The keep alive period of an advertisement in milliseconds, and its D bit."""
-    found = heard.descriptor(12)
-    return (number(found.data[4:8]), bool(found.data[3] & 1)) if found and len(found.data) >= 8 else None
-
-
-def exchange_key(it: Shown) -> Optional[Hashable]:
-    """What the frames of an exchange have in common: who began it, with whom, and its OX_ID."""
-    heard, fc = it.heard, it.heard.fc
-    if fc is None or fc.end < fc.payload_at:
-        return None
-    if heard.is_fip:
-        return ("fip", heard.source if heard.operation == LOGIN else heard.destination, fc.ox_id)
-    here, there = (fc.d_id, fc.s_id) if fc.f_ctl & RESPONDER else (fc.s_id, fc.d_id)
-    return (here, there, fc.ox_id)
-
-
-def is_request(it: Shown) -> bool:
-    """Begins an exchange."""
-    heard, fc = it.heard, it.heard.fc
-    if heard.is_fip:
-        return heard.operation == LOGIN and fc is not None
-    return fc is not None and fc.r_ctl in REQUESTS and not fc.f_ctl & RESPONDER and fc.seq_cnt == 0
-
-
-def is_end(it: Shown) -> bool:
-    """Ends its exchange: the last frame of a reply, a response of FCP, or the answer to an ABTS."""
-    heard, fc = it.heard, it.heard.fc
-    if fc is None:
-        return False
-    if heard.is_fip:
-        return heard.operation == LOGIN_REPLY
-    if fc.kind == 0:
-        return fc.r_ctl in (0x84, 0x85)
-    return (fc.is_reply or fc.r_ctl == 0x07) and bool(fc.f_ctl & END_SEQUENCE)
-
-
-def is_copy(it: Shown, other: Shown) -> bool:
-    """The same FC frame once more, as the switch sends on what one N_Port of a host sent to another."""
-    fc, sent = it.heard.fc, other.heard.fc
-    return it.is_switch and not other.is_switch and fc is not None and sent is not None and fc.data[fc.at : fc.end] == sent.data[sent.at : sent.end]
-
-
-def is_alike(it: Shown, other: Shown) -> bool:
-    """The same FC frame once more."""
-    fc, sent = it.heard.fc, other.heard.fc
-    return fc is not None and sent is not None and fc.data[fc.at : fc.end] == sent.data[sent.at : sent.end]
-
-
-class Exchanges:
-    """All exchanges of some frames."""
-
-    def __init__(self) -> None:
-        self.all: list[Exchange] = []
-        self.open: dict[Hashable, Exchange] = {}
-        self.of_frame: dict[int, Exchange] = {}
-        self.by_pair: dict[frozenset[int], list[Exchange]] = {}  # of PLOGI, PRLI and LOGO, by both addresses
-        self.accepts: dict[frozenset[int], list[Shown]] = {}  # of PLOGIs, whose requests may be missing
-
-    def begin(self, it: Shown, key: Hashable) -> Exchange:
-        if it.heard.kind == "LOGO":
-            self.log_out(it)
-        found = self.open.get(key)
-        if found and not found.ended and not found.reused:
-            found.reused = it
-        made = self.open[key] = Exchange(it)
-        self.all.append(made)
-        if it.heard.kind in ("PLOGI", "PRLI", "LOGO") and it.heard.is_fcoe and it.fc:
-            self.by_pair.setdefault(frozenset((it.fc.s_id, it.fc.d_id)), []).append(made)
-        return made
-
-    def note_accept(self, it: Shown) -> None:
-        """An LS_ACC that is as long as a PLOGI's or PDISC's says that one was accepted, where its request isn't in the capture."""
-        fc = it.heard.fc
-        if fc is not None and it.heard.is_fcoe and fc.r_ctl == 0x23 and len(fc.payload) >= LOGIN_SIZE and fc.payload[:1] == b"\x02":
-            self.accepts.setdefault(frozenset((fc.s_id, fc.d_id)), []).append(it)
-
-    def was_accepted(self, fc: Fc, since: int, at: int) -> bool:
-        """An accept of a PLOGI between both ends of a frame stands between two places."""
-        return any(since < it.at < at for it in self.accepts.get(frozenset((fc.s_id, fc.d_id)), []))
-
-    def between(self, fc: Fc, kind: str, at: int) -> list[Exchange]:
-        """The exchanges of a kind between both ends of a frame, before it."""
-        return [it for it in self.asked(fc, kind) if it.request.at < at]
-
-    def asked(self, fc: Fc, kind: str) -> list[Exchange]:
-        """The same, whenever they are."""
-        return [it for it in self.by_pair.get(frozenset((fc.s_id, fc.d_id)), []) if it.request.heard.kind == kind]
-
-    def log_out(self, it: Shown) -> None:
-        """A LOGO ends the exchanges between both N_Ports."""
-        fc = it.heard.fc
-        pair = {fc.s_id, fc.d_id} if fc else set()
-        for one in self.open.values():
-            asked = one.request.fc
-            if asked and one.request.heard.is_fcoe and {asked.s_id, asked.d_id} == pair and not one.ended:
-                one.ended = it
-
-    def take(self, it: Shown) -> None:
-        key = exchange_key(it)
-        self.note_accept(it)
-        if key is None:
-            return
-        found = self.open.get(key)
-        if found is not None and any(is_copy(it, one) for one in found.frames[-3:]):
-            self.of_frame[it.at] = found
-            return
-        if is_request(it):
-            found = self.begin(it, key)
-        if found is None:
-            return
-        self.of_frame[it.at] = found
-        is_doubled = is_end(it) and any(is_alike(it, one) for one in found.frames)
-        found.frames.append(it)
-        fc = it.heard.fc
-        is_reply = fc is not None and bool(fc.f_ctl & RESPONDER) if it.heard.is_fcoe else it.heard.operation == LOGIN_REPLY
-        if is_reply and found.reply is None and not (it.heard.kind in ANSWERS_TO_ABTS or fc and fc.r_ctl & 0xF0 == ACKNOWLEDGES):
-            found.reply = it
-        if it.heard.kind == "ABTS":
-            found.aborted = it
-        if it.heard.kind in ANSWERS_TO_ABTS:
-            found.settled = it
-        if is_end(it):
-            if found.ended is not None and not is_doubled:
-                found.surplus.append(it)
-            found.ended = it
-
-
 class Talk:
     """The frames between an ENode and the switch on a port; or all frames of the fabric on a port."""
 
@@ -279,7 +73,9 @@ class Talk:
         self.own = [it for it in frames if not it.is_switch]
         self.theirs = [it for it in frames if it.is_switch]
         self.grants: list[Grant] = []
-        self.told: dict[str, Any] = {}  # what rules of one subject have in common
+        self.by_mac: dict[bytes, list[Grant]] = {}
+        self.by_address: dict[int, list[Grant]] = {}
+        self.told: dict[Hashable, Any] = {}  # what rules of one subject have in common
         for it in frames:
             self.take(it)
 
@@ -287,7 +83,7 @@ class Talk:
     def label(self) -> str:
         return colons(self.name) if self.name else colons(self.mac)
 
-    @property
+    @cached_property
     def is_two_way(self) -> bool:
         """The capture has what the switch sends to it, too; what goes to all ENodes may be heard anywhere."""
         return any(not it.heard.destination[0] & 1 for it in self.theirs)
@@ -304,20 +100,43 @@ class Talk:
             found.take(it)
         return found
 
-    def of(self, *kinds: str) -> Iterator[Shown]:
-        """The ENode's frames of some kinds."""
-        return (it for it in self.own if it.heard.kind in kinds)
+    @cached_property
+    def kinds(self) -> dict[tuple[str, bool], list[Shown]]:
+        """The frames by their kinds, and by whether the switch sent them."""
+        found: dict[tuple[str, bool], list[Shown]] = {}
+        for it in self.frames:
+            found.setdefault((it.heard.kind, it.is_switch), []).append(it)
+        return found
 
-    def by_switch(self, *kinds: str) -> Iterator[Shown]:
-        return (it for it in self.theirs if it.heard.kind in kinds)
+    def sent(self, is_switch: bool, kinds: tuple[str, ...]) -> list[Shown]:
+        some = [self.kinds.get((it, is_switch), []) for it in kinds]
+        return some[0] if len(some) == 1 else sorted((it for one in some for it in one), key=lambda it: it.at)
+
+    def of(self, *kinds: str) -> list[Shown]:
+        """The ENode's frames of some kinds."""
+        return self.sent(False, kinds)
+
+    def by_switch(self, *kinds: str) -> list[Shown]:
+        return self.sent(True, kinds)
 
     @cached_property
-    def clocks(self) -> list[float]:
-        return [it.clock for it in self.frames]
+    def timed(self) -> Timed:
+        return Timed(self.frames)
+
+    @cached_property
+    def turns(self) -> Timed:
+        """What ends logins, or begins them anew."""
+        return Timed([it for it in self.frames if it.heard.is_fip and (it.heard.kind in ENDS or it.heard.kind == "LOGO")])
+
+    def moments(self, is_switch: bool, *kinds: str) -> Timed:
+        """The frames of some kinds, found by their moments."""
+        found: Timed = self.told.get((is_switch, *kinds)) or Timed(self.sent(is_switch, kinds))
+        self.told[is_switch, *kinds] = found
+        return found
 
     def within(self, begin: float, end: float) -> list[Shown]:
         """The frames between two moments."""
-        return self.frames[bisect_left(self.clocks, begin) : bisect_right(self.clocks, end)]
+        return self.timed.within(begin, end)
 
     def longest_rest(self, begin: float, end: float) -> float:
         """The longest time between two moments in which no frame stands, in milliseconds."""
@@ -373,7 +192,10 @@ class Talk:
             for grant in self.live(it.at, it.heard.destination):
                 grant.ended, grant.why = it, "login"
         mac = mac_in(it.heard) or self.fc_map(it) + address.to_bytes(3, "big")
-        self.grants.append(Grant(it.heard.destination, address, mac, it, asked, names[0] if names else b""))
+        made = Grant(it.heard.destination, address, mac, it, asked, names[0] if names else b"")
+        self.grants.append(made)
+        self.by_mac.setdefault(mac, []).append(made)
+        self.by_address.setdefault(address, []).append(made)
 
     def is_second(self, it: Shown, asked: Optional[Shown]) -> bool:
         """A further accept of a FLOGI that came twice, which its ENode may have taken for nothing."""
@@ -396,7 +218,14 @@ class Talk:
 
     def grant_of(self, mac: bytes, at: int) -> Optional[Grant]:
         """The latest grant of a MAC before a frame, whether or not it has ended."""
-        return next((it for it in reversed(self.grants) if it.mac == mac and it.granted.at < at), None)
+        return next((it for it in reversed(self.by_mac.get(mac, [])) if it.granted.at < at), None)
+
+    def login_of(self, address: int, at: int, *, is_live: bool = True) -> Optional[Grant]:
+        """The grant of an address that is live before a frame; or else the latest one, whether or not it has ended."""
+        some = self.by_address.get(address, [])
+        if is_live:
+            return next((it for it in some if it.is_live(at)), None)
+        return next((it for it in reversed(some) if it.granted.at < at), None)
 
     @cached_property
     def advertisements(self) -> list[Shown]:
@@ -409,10 +238,17 @@ class Talk:
     def began_before(self, it: Shown) -> bool:
         """The ENode may have logged in before the capture began: no accepted FLOGI stands before this frame, nor a discovery with a FLOGI at the
         begin of all that it sent."""
-        if any(grant.granted.at < it.at and grant.granted.heard.login_kind == "FLOGI" for grant in self.grants):
+        if self.begun["grant"] < it.at:
             return False
-        first, kinds = next(iter(self.own), it), {one.heard.kind for one in self.own if one.at < it.at}
-        return first.heard.kind != "VLAN request" and (first.heard.kind != "Solicitation" or "FLOGI" not in kinds)
+        first = next(iter(self.own), it)
+        return first.heard.kind != "VLAN request" and (first.heard.kind != "Solicitation" or self.begun["FLOGI"] >= it.at)
+
+    @cached_property
+    def begun(self) -> dict[str, int]:
+        """Where the first grant of a FLOGI stands, and the first FLOGI; behind all frames where there is none."""
+        none = len(self.port.frames) + 1
+        grants = (it.granted.at for it in self.grants if it.granted.heard.login_kind == "FLOGI")
+        return {"grant": next(grants, none), "FLOGI": next((it.at for it in self.of("FLOGI")), none)}
 
     @cached_property
     def silences(self) -> list[Silence]:
@@ -430,7 +266,7 @@ class Talk:
                     found.append(Silence(it, it.clock + PERIODS * period[0], until))
         return found
 
-    @property
+    @cached_property
     def accounted(self) -> int:
         """Frames whose loss would be seen: those of sequences and discovery, and of exchanges that were answered."""
         beats = sum(it.heard.kind == "Keep alive" for it in self.own)
@@ -467,10 +303,9 @@ class Talk:
 
     def is_misnumbered(self, fc: Fc, it: Shown) -> bool:
         """An answer with another OX_ID than a request that has none: no sign of loss."""
-        for one in reversed(self.exchanges.all):
-            asked = one.request.heard.fc
-            if one.request.at < it.at and one.reply is None and asked is not None and (asked.s_id, asked.d_id) == (fc.d_id, fc.s_id):
-                return it.clock - one.request.clock < 2_000
+        for one in reversed(self.exchanges.by_ends.get((fc.d_id, fc.s_id), [])):
+            if one.request.at < it.at and (one.reply is None or it.clock - one.request.clock >= AT_ONCE):
+                return it.clock - one.request.clock < AT_ONCE
         return False
 
     def is_known(self, fc: Fc, it: Shown) -> bool:
@@ -506,9 +341,7 @@ class Talk:
         """The ENode or its forwarder ended the login of an address meanwhile: by FLOGI, LOGO, Clear Virtual Links, a solicitation or silence."""
         if any(it.begin <= end and begin <= it.end for it in self.silences):
             return True
-        kinds = ("FLOGI", "Solicitation", "VLAN request", "Clear links")
-        some = [it for it in self.within(begin, end) if it.heard.is_fip]
-        return any(it.heard.kind in kinds or it.heard.kind == "LOGO" and it.fc and it.fc.s_id == address for it in some)
+        return any(it.heard.kind in ENDS or it.fc is not None and it.fc.s_id == address for it in self.turns.within(begin, end))
 
 
 Told = dict[bytes, list[tuple[int, bytes]]]  # of a MAC: places in the capture, and the ENode that has it from there on
