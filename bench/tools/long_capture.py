@@ -1,15 +1,19 @@
-"""Long captures of one host in both directions: the begin of good_runs' base, and behind it some of its commands again and again, with keep alives and
-advertisements between."""
+"""Long captures in both directions: of one host the begin of good_runs' base, and behind it some of its commands again and again, with keep alives and
+advertisements between; and of a load, whose commands have no answer and come to the N_Ports of the same link."""
+import pathlib
 import struct
 from typing import Iterator
 
 from check_edits import SECOND, SWITCH, Tape
 from fault_edits import exchange_of, part
 
+from fcoe.frames.captures import classic
 from fcoe.frames.columns import Record
 from fcoe.frames.heard import ALL_ENODES, fc_check, hear
+from fcoe.live.loads import FC_MAP, FORWARDER, Load, Size, write_load
 
 BEGIN, BEAT, PORT_BEAT = 36 * SECOND, 8 * SECOND, 80 * SECOND  # of the base; between keep alives and advertisements; between those of N_Ports
+FCP = 0x08
 GAP, PAUSE = 20_000, 60_000  # nanoseconds between frames, and behind a command
 COMMANDS = ((5, True, 2048), (8, False, 512), (7, True, 1), (9, False, 1))  # which are sent again: the how manieth, whether it writes, bytes at least
 OX_IDS = range(0x1000, 0x7000)
@@ -60,3 +64,14 @@ def long_capture(tape: Tape, count: int) -> Iterator[Record]:
     course = courses(tape, first[-1].moment + PAUSE)
     for (moment, data), _ in zip(course, range(count - len(first))):
         yield Record(moment, data, len(data), 0)
+
+
+def load_capture(room: pathlib.Path, count: int) -> Iterator[Record]:
+    """A load of one port, each of its data frames sent on to whom it goes."""
+    write_load(Load(Size(frames=count // 2, ports=1, logins=30)), room / "load")
+    for it in classic(str(room / "load" / "in1.pcap")).records:
+        yield it
+        fc = hear(it.data).fc
+        if fc is not None and fc.kind == FCP:
+            data = FC_MAP + fc.d_id.to_bytes(3, "big") + FORWARDER + it.data[12:]
+            yield Record(it.moment + GAP, data, len(data), 0)

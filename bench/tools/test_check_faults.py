@@ -15,7 +15,7 @@ from fault_edits import in_exchange, part, reused
 from faults import FAULTS, Fault
 from faults_known import GIVEN, OTHERWISE
 from good_runs import base_tapes
-from long_capture import long_capture
+from long_capture import load_capture, long_capture
 from machine import slow
 from wear import WEARS
 
@@ -104,15 +104,35 @@ def test_long_captures(monkeypatch: pytest.MonkeyPatch) -> None:
     assert [it for it in LATE if not is_found_among_many(it, monkeypatch)] == []
 
 
-@slow
-def test_a_million(tmp_path: pathlib.Path) -> None:
-    """`look check` stays within 200 MiB."""
-    file = str(tmp_path / "long.pcap")
-    write_classic(file, long_capture(BASES["initiator"], 1_000_000))
+def test_load(tmp_path: pathlib.Path, monkeypatch: pytest.MonkeyPatch) -> None:
+    """Commands without an answer, which the switch sends on over the same link: what is left out changes no verdict."""
+    tape, found = list(load_capture(tmp_path, 4_000)), []
+    for sifted in (0, len(tape)):
+        monkeypatch.setattr(talk, "SIFTED", sifted)
+        found.append(states(put(Pick("FCP_CMND", 1_500), behind(0), bytes(4), False)(tape)))
+    assert found[0] == found[1] and "crc" in found[0][BROKEN]
+
+
+def is_bounded(file: str, seconds: float) -> bool:
+    """`look check` stays within so many seconds of a processor and 200 MiB."""
     with subprocess.Popen([LOOK, "check", "--quiet", file], stdout=subprocess.DEVNULL) as ran:
         _, status, used = os.wait4(ran.pid, 0)
         ran.returncode = os.waitstatus_to_exitcode(status)
-    assert ran.returncode == 0 and used.ru_maxrss < 200 << 10
+    return ran.returncode < 2 and used.ru_maxrss < 200 << 10 and used.ru_utime + used.ru_stime < seconds
+
+
+def test_time_of_a_load(tmp_path: pathlib.Path) -> None:
+    """Its time grows with the capture."""
+    file = str(tmp_path / "both.pcap")
+    write_classic(file, load_capture(tmp_path, 80_000))
+    assert is_bounded(file, 10)
+
+
+@slow
+def test_a_million(tmp_path: pathlib.Path) -> None:
+    for file, tape in (("long", long_capture(BASES["initiator"], 1_000_000)), ("load", load_capture(tmp_path, 1_000_000))):
+        write_classic(str(tmp_path / file), tape)
+        assert is_bounded(str(tmp_path / file), 60)
 
 
 def test_outputs(tmp_path: pathlib.Path) -> None:

@@ -2,22 +2,23 @@
 
 A command and what belongs to it is told by the flows of its frames, F_CTL, delimiters, whether check sequence, counts, offsets, lengths and residual are
 right, and its flags. It is left out where one that is alike was taken since the last message other than a keep alive or an advertisement, its frames aren't
-larger, and each of its senders was taken in this second. All else is taken."""
+larger, and each of its senders was taken in this second; of those that have no answer one is taken every ten seconds. All else is taken."""
 import struct
 from typing import Hashable, NamedTuple, Optional
 from zlib import crc32
 
 from ..frames.columns import Flow, Frames
-from ..frames.heard import ADVERTISE, KEEP_ALIVE, number
+from ..frames.heard import ADVERTISE, KEEP_ALIVE, Fc, number
 
 FCP, DATA, READY, COMMAND, RESPONSE = 0x08, 0x01, 0x05, 0x06, 0x07
+BASIC, OX_ID_AT = 0x00, 16  # TYPE of ABTS and its answers; where OX_ID stands in the FC header
 RESPONDER, END_SEQUENCE, OFFSET_HELD, FILL, UNGIVEN = 0x800000, 0x080000, 0x000008, 3, 0xFFFF
 WRITES, SENSE_HELD, CODE_HELD, UNDER = 0x01, 0x02, 0x01, 0x08
 HEAD = struct.Struct(">IBBHHHI")  # TYPE and F_CTL, SEQ_ID, DF_CTL, SEQ_CNT, OX_ID, RX_ID, PARAMETER
 HEAD_AT, HEAD_SIZE, BEHIND = 8, 24, 8  # where these stand in the FC header, its size, and bytes behind the payload
 LEAST = {COMMAND: 32, READY: 8, RESPONSE: 24, DATA: 0}  # bytes of a payload that can be told
 MOST_OPEN = 20_000
-SECOND = 1_000_000_000
+SECOND, OPEN_SPAN = 1_000_000_000, 10_000_000_000
 Key = tuple[int, int, int]
 
 
@@ -86,7 +87,9 @@ class Unit:
         if known.kind == DATA:
             return self.data(head.offset, size - (head.f_ctl & FILL)) if head.f_ctl & OFFSET_HELD else size
         content = data[known.fc_at + HEAD_SIZE :]
-        if not size >= LEAST[known.kind] <= len(content):
+        if size >= LEAST[known.kind] > len(content):
+            return None  # cut, so that no rule reads it
+        if size < LEAST[known.kind]:
             self.is_taken = True
             return None
         return self.command(content, size) if known.kind == COMMAND else self.ready(content, size) if known.kind == READY else self.response(content, size)
@@ -112,7 +115,6 @@ class Unit:
 
 
 
-
 class Sieve:
     """Goes over the frames of a port once."""
 
@@ -125,15 +127,18 @@ class Sieve:
         self.largest: dict[int, int] = {}
         self.second, self.heard_from = -1, set[int]()
         self.open: dict[Key, Unit] = {}
+        self.unanswered: set[Hashable] = set()  # what was taken of commands that have no answer
+        self.answered: dict[Key, tuple[int, bool]] = {}  # where the latest responses stand, and whether they were taken
         self.senders: dict[bytes, int] = {}
         self.known = [self.known_of(it) for it in frames.flows]
+        self.basic = [it.heard.fc if it.heard.is_fcoe and it.heard.fc and it.heard.fc.kind == BASIC else None for it in frames.flows]
         self.is_beat = [it.heard.operation in (KEEP_ALIVE, ADVERTISE) or not it.heard.is_fabric for it in frames.flows]
 
     def known_of(self, flow: Flow) -> Optional[Known]:
         fc = flow.heard.fc if flow.heard.is_fcoe else None
         if fc is None or fc.kind != FCP or fc.r_ctl not in (DATA, READY, COMMAND, RESPONSE):
             return None
-        who = flow.heard.data[: flow.heard.at] + flow.heard.data[fc.at + 4 : fc.at + 8]
+        who = flow.heard.data[6 : flow.heard.at] + flow.heard.data[fc.at + 4 : fc.at + 8]  # source and tag, CS_CTL and S_ID
         return Known(fc.at, fc.r_ctl, fc.s_id, fc.d_id, self.senders.setdefault(who, len(self.senders)))
 
     def sifted(self) -> bytearray:
@@ -148,13 +153,33 @@ class Sieve:
                 self.take(at, flow, known)
                 continue
             self.taken[at] = 1
+            self.take_basic(at, self.basic[flow])
             if not self.is_beat[flow]:
                 self.epoch += 1
                 self.seen.clear()
                 self.largest.clear()
         for unit in self.open.values():
-            self.keep(unit)
+            self.abandon(unit)
         return self.taken
+
+    def take_basic(self, at: int, fc: Optional[Fc]) -> None:
+        """The command that an ABTS is of is taken too."""
+        if fc is None:
+            return
+        ox_id = number(self.frames.data(at)[fc.at + OX_ID_AT : fc.at + OX_ID_AT + 2])
+        for key in ((fc.s_id, fc.d_id, ox_id), (fc.d_id, fc.s_id, ox_id)):
+            if key in self.open:
+                self.open[key].is_taken = True
+
+    def abandon(self, unit: Unit) -> None:
+        """Of commands without an answer that are alike one is taken every ten seconds, and of each sender one every second."""
+        moment = self.frames.moments[unit.places[0]]
+        marks: set[Hashable] = {(unit.epoch, tuple(unit.signs), moment // OPEN_SPAN), *((moment // SECOND, it) for it in unit.senders)}
+        if unit.is_taken or not marks <= self.unanswered:
+            self.unanswered |= marks
+            self.keep(unit)
+        else:
+            self.left_out += len(unit.places)
 
     def keep(self, unit: Unit) -> None:
         for at in unit.places:
@@ -166,7 +191,11 @@ class Sieve:
         head, size = head_of(data, known.fc_at), length - known.fc_at - HEAD_SIZE - BEHIND
         back = head.f_ctl & RESPONDER
         key = (known.d_id, known.s_id, head.ox_id) if back else (known.s_id, known.d_id, head.ox_id)
-        unit = self.unit_of(key, known.kind == COMMAND and not back)
+        if known.kind == RESPONSE and self.is_sent_on(at, known, key):
+            return
+        is_command = known.kind == COMMAND and not back
+        unit = self.unit_of(key, is_command and not self.is_again(at, known, key))
+        unit.has_command |= is_command
         sound = soundness(data, known.fc_at) if len(data) == length else None
         sign = (flow, head.f_ctl, head.df_ctl, sound, size & 3, unit.order(head), unit.given(head.rx_id), unit.told(known, head, data, size))
         if not unit.signs or unit.signs[-1] != sign:
@@ -182,6 +211,24 @@ class Sieve:
         else:
             unit.running[back] = head.seq_id, (head.seq_cnt + 1) & 0xFFFF, head.offset + size - (head.f_ctl & FILL)
 
+    def is_alike(self, at: int, known: Known, there: int) -> bool:
+        """The same FC frame as at another place, as the switch sends on what goes to another N_Port of a link."""
+        other = self.known[self.frames.flow_of[there]]
+        return other is not None and other.sender != known.sender and self.frames.data(at)[known.fc_at :] == self.frames.data(there)[other.fc_at :]
+
+    def is_again(self, at: int, known: Known, key: Key) -> bool:
+        """The command that is open, sent on."""
+        return key in self.open and self.is_alike(at, known, self.open[key].places[0])
+
+    def is_sent_on(self, at: int, known: Known, key: Key) -> bool:
+        """A response that was there, sent on; it is taken where that was."""
+        there, is_taken = self.answered.get(key, (-1, False))
+        if key in self.open or there < 0 or not self.is_alike(at, known, there):
+            return False
+        self.taken[at] = is_taken
+        self.left_out += not is_taken
+        return True
+
     def unit_of(self, key: Key, is_command: bool) -> Unit:
         """The command that a frame belongs to; a further one with the OX_ID of an open one is taken with it."""
         found = self.open.get(key)
@@ -194,27 +241,34 @@ class Sieve:
         elif found is not None:
             self.close(found)
         elif len(self.open) >= MOST_OPEN:
-            self.keep(self.open.pop(next(iter(self.open))))
+            self.abandon(self.open.pop(next(iter(self.open))))
         self.open[key] = made
         return made
 
     def may_close(self, key: Key, unit: Unit, kind: int, is_back: bool) -> None:
-        """A command ends with its response; where one direction is there alone, with what its own side sends."""
-        is_over = kind == RESPONSE
-        if not self.is_two_way and not is_back and (not unit.has_command or not unit.flags & WRITES or unit.moved >= unit.length):
+        """A command ends with its response; where one direction is there alone, with what its own side sends. One that isn't there ends with each sequence."""
+        is_over = kind == RESPONSE or not unit.has_command
+        if kind == RESPONSE and not unit.has_command and self.is_two_way:
+            unit.is_taken = True
+        if not self.is_two_way and not is_back and (not unit.flags & WRITES or unit.moved >= unit.length):
             is_over = True
         if is_over:
-            self.close(unit)
+            is_taken = self.close(unit)
             self.open.pop(key, None)
+            if kind == RESPONSE:
+                if len(self.answered) >= MOST_OPEN:
+                    self.answered.clear()
+                self.answered[key] = unit.places[-1], is_taken
 
-    def close(self, unit: Unit) -> None:
-        """Takes a command, or leaves it out."""
+    def close(self, unit: Unit) -> bool:
+        """Takes a command, or leaves it out; whether it's taken."""
         signs = tuple(unit.signs)
         is_alike = unit.epoch == self.epoch and signs in self.seen and unit.senders <= self.heard_from
-        if is_alike and not unit.is_taken and (unit.has_command or not self.is_two_way):
+        if is_alike and not unit.is_taken:
             self.left_out += len(unit.places)
-            return
+            return False
         self.keep(unit)
         self.heard_from |= unit.senders
         if unit.epoch == self.epoch:
             self.seen.add(signs)
+        return True

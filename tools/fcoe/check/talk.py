@@ -1,5 +1,5 @@
 """What ENodes and the switch said to each other on a port, in order, with exchanges and grants: what the rules of `look check` are judged over."""
-from dataclasses import dataclass, field
+from dataclasses import dataclass
 from functools import cached_property
 from itertools import accumulate
 from typing import Any, Hashable, Iterator, Optional

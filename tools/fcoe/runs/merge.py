@@ -59,6 +59,8 @@ def with_comments(source: str, out: str, comments: Iterable[tuple[int, str]], ro
         ran = called(["editcap", "-F", "pcapng", *some, here, there])
         if ran.returncode:
             raise Refused(f"{source}: editcap: {last_line(ran)}")
+        if here != source:
+            os.remove(here)  # one copy at a time
         here, turn = there, turn + 1
     with renamed(out) as whole:
         shutil.copyfile(here, whole)
