@@ -82,6 +82,8 @@ def judge_gap(talk: Talk, before: Shown, it: Shown, period: int, tally: Tally) -
     fault = want("time without an advertisement", f"{gap / 1000:.1f} s after frame {before.place}", f"one each {period / 1000:g} s", gap <= PERIODS * period)
     if fault and talk.longest_rest(before.clock, it.clock) > period:
         tally.leave(f"{fault.stands} without an advertisement, and {gap / 1000:.1f} s nearly without any frame: the link may have been down", it)
+    elif fault and talk.moments(False, "VLAN request", "Solicitation").within(before.clock, it.clock):
+        tally.leave(f"{fault.stands} without an advertisement, and an ENode began anew meanwhile: the link may have been down", it)
     else:
         tally.lack(("advertisement", it.at), it, fault, missing=2 if gap > SURE * period else 1)
 
