@@ -1,7 +1,7 @@
 //! The command over real files, and with memory that is refused.
 ghost use Rattle.tool_process.specs.Edge.{KnowsAll};
 
-use fab_base::{Depot, MemSink, NoMemory, word_at};
+use fab_base::{Depot, Failed, MemSink, NoMemory, word_at};
 use fabric_tool::Outcome;
 use std::alloc::{AllocError, AllocGlobal, Global};
 use std::env::FillError;
@@ -47,17 +47,16 @@ fn words_in(alloc: Global, words: &[&str]) -> Result<Vec<String>, NoMemory> {
     Ok(list)
 }
 
-// The status of a command over real files that knows its words.
-fn status_of_files<R: Threads + Wait + Sync + Files>(
+// The status of a command over real files where the standard output leads to this spot.
+fn status_beside<R: Threads + Wait + Sync + Files>(
     rt: &R,
     alloc: Global,
     words: &[String],
-    depot: &mut FileDepot<'_, R>,
+    printed: &Spot,
     say: &mut MemSink,
-) -> u8
-    requires { KnowsAll depot.old.desk words.now }
-{
-    status_of_process(rt, alloc, words, depot, say)
+) -> Result<u8, NoMemory> {
+    let mut depot = FileDepot::new(rt, alloc, words, printed)?;
+    Ok(status_of_process(rt, alloc, words, &mut depot, say))
 }
 
 // Runs a command over real files, which prints this line and answers this status.
@@ -81,10 +80,17 @@ fn ends_beside<R: Threads + Wait + Sync + Files + Abort>(
 ) -> Result<(), Fail> {
     let words = words_in(alloc, words)?;
     let mut say = MemSink::new(alloc, 100)?;
-    let mut depot = FileDepot::new(rt, alloc, &words, printed)?;
-    let status = status_of_files(rt, alloc, &words, &mut depot, &mut say);
+    let status = status_beside(rt, alloc, &words, printed, &mut say)?;
     assert_eq!(rt; say.content(), wanted.0);
     assert_eq!(rt; status, wanted.1);
+    Ok(())
+}
+
+// Writes files, each a name and what it holds.
+fn write_all<R: Files + AllocGlobal>(rt: &R, files: &[(&str, &[u8])]) -> Result<(), Fail> {
+    for (name, bytes) in files {
+        fs::write(rt, name, *bytes)?;
+    }
     Ok(())
 }
 
@@ -94,14 +100,19 @@ fn holds<R: Files + AllocGlobal + Abort>(rt: &R, name: &str, bytes: &[u8]) -> Re
     Ok(())
 }
 
+// What stands in the outputs before is no part of them afterwards, though it is longer.
 #[test]
 fn real_files(rt: HostRuntime) -> Result<(), Fail> {
-    fs::write(&rt, "K", &CONFIG)?;
-    fs::write(&rt, "IN", &REQUEST)?;
-    // What stands in the outputs before is no part of them afterwards, though it is longer.
-    for name in ["J", "OUT"] {
-        fs::write(&rt, name, &[0; 200])?;
-    }
+    let before = [0; 200];
+    write_all(
+        &rt,
+        &[
+            ("K", &CONFIG),
+            ("IN", &REQUEST),
+            ("J", &before),
+            ("OUT", &before),
+        ],
+    )?;
     ends(&rt, rt.alloc(), &ONE_PORT, b"frames 1 entries 2\n", 0)?;
     holds(&rt, "J", b"journal 2\n1000 tick\n1000 1 0 vlans\n")?;
     holds(&rt, "OUT", &NOTIFICATION)
@@ -173,8 +184,7 @@ fn words_of_a_process(rt: HostRuntime) -> Result<(), Fail> {
 // What a command prints goes where this test's own output goes, and no file of the command may.
 #[test]
 fn the_standard_output_is_no_output(rt: HostRuntime) -> Result<(), Fail> {
-    fs::write(&rt, "PLAIN", &CONFIG)?;
-    fs::write(&rt, "HEARD", &REQUEST)?;
+    write_all(&rt, &[("PLAIN", &CONFIG), ("HEARD", &REQUEST)])?;
     let words = ["run", "PLAIN", "UNMADE", "HEARD", "/dev/stdout"];
     let printed = standard_output(&rt);
     ends_beside(&rt, rt.alloc(), &words, &printed, (b"", 4))?;
@@ -247,9 +257,7 @@ fn commands_keep_it<R: Threads + Wait + Sync + Files + AllocGlobal + Abort>(
 // The files of the test below, and links to them. The names are its own, since all tests write into
 // one folder.
 fn make_links<R: Files + AllocGlobal>(rt: &R) -> Result<(), Fail> {
-    fs::write(rt, "SET", &CONFIG)?;
-    fs::write(rt, "ASKED", &REQUEST)?;
-    fs::write(rt, "TWICE", b"")?;
+    write_all(rt, &[("SET", &CONFIG), ("ASKED", &REQUEST), ("TWICE", b"")])?;
     fs::create_dir_all(rt, "folder")?;
     for (to, name) in [
         ("TWICE", "SOFT"),
@@ -290,87 +298,74 @@ fn put_first<R: Files + AllocGlobal + Abort>(
     rt: &R,
     depot: &mut FileDepot<'_, R>,
     words: &[String],
-) -> Result<(), Fail>
+) -> Result<(), Failed>
     requires { KnowsAll depot.old.desk words.now }
 {
     assert_eq!(rt; words.len(), 3);
-    let Ok(first) = depot.open_out(word_at(words, 1)) else {
-        return Ok(());
-    };
+    let first = depot.open_out(word_at(words, 1))?;
     let opened = depot.open_out(word_at(words, 2)).is_ok();
-    are(rt, ["before", "before"])?;
-    if depot.put(first, b"after").is_err() {
-        return Ok(());
-    }
-    are(rt, ["after", if opened { "" } else { "before" }])
+    is_or_unread(rt, "FIRST", b"before");
+    is_or_unread(rt, "SECOND", b"before");
+    depot.put(first, b"after")?;
+    is_or_unread(rt, "FIRST", b"after");
+    is_or_unread(rt, "SECOND", if opened { b"" } else { b"before" });
+    Ok(())
 }
 
 // Holds whichever allocation is refused (`rt try --test --fail-alloc N`): an output is as it was
 // until the first byte is written.
 #[test]
 fn no_file_is_emptied_before_a_byte_comes(rt: HostRuntime) -> Result<(), Fail> {
-    for name in ["FIRST", "SECOND"] {
-        fs::write(&rt, name, b"before")?;
-    }
-    let Ok(words) = words_in(rt.alloc(), &["run", "FIRST", "SECOND"]) else {
-        return Ok(());
-    };
-    match FileDepot::new(&rt, rt.alloc(), &words, &Spot::Other) {
-        Ok(mut depot) => put_first(&rt, &mut depot, &words),
-        Err(NoMemory) => Ok(()),
-    }
-}
-
-// What FIRST and SECOND hold; memory to read them may be refused.
-fn are<R: Files + AllocGlobal + Abort>(rt: &R, texts: [&str; 2]) -> Result<(), Fail> {
-    let names = ["FIRST", "SECOND"];
-    for place in 0..2 {
-        let Ok(text) = fs::read(rt, names[place]) else {
-            return Ok(());
-        };
-        assert_eq!(rt; text.as_slice(), texts[place].as_bytes());
+    write_all(&rt, &[("FIRST", b"before"), ("SECOND", b"before")])?;
+    if let Ok(words) = words_in(rt.alloc(), &["run", "FIRST", "SECOND"]) {
+        if let Ok(mut depot) = FileDepot::new(&rt, rt.alloc(), &words, &Spot::Other) {
+            let _put = put_first(&rt, &mut depot, &words);
+        }
     }
     Ok(())
+}
+
+// A file has these bytes; memory to read it may be refused.
+fn is_or_unread<R: Files + AllocGlobal + Abort>(rt: &R, name: &str, bytes: &[u8]) {
+    if let Ok(text) = fs::read(rt, name) {
+        assert_eq!(rt; text.as_slice(), bytes);
+    }
 }
 
 // Runs a command over real files, or not: memory for its words and files may be refused.
-fn run_or_not<R: Threads + Wait + Sync + Files>(rt: &R, alloc: Global, words: &[&str]) {
-    let Ok(words) = words_in(alloc, words) else {
-        return;
-    };
-    let Ok(mut say) = MemSink::new(alloc, 100) else {
-        return;
-    };
-    if let Ok(mut depot) = FileDepot::new(rt, alloc, &words, &Spot::Other) {
-        status_of_files(rt, alloc, &words, &mut depot, &mut say);
-    }
+fn run_or_not<R: Threads + Wait + Sync + Files>(
+    rt: &R,
+    alloc: Global,
+    words: &[&str],
+) -> Result<u8, NoMemory> {
+    let words = words_in(alloc, words)?;
+    let mut say = MemSink::new(alloc, 100)?;
+    status_beside(rt, alloc, &words, &Spot::Other, &mut say)
 }
 
 // A file is as it was, or holds a prefix of these bytes; memory to read it may be refused.
-fn is_front<R: Files + AllocGlobal + Abort>(rt: &R, name: &str, whole: &[u8]) -> Result<(), Fail> {
-    let Ok(text) = fs::read(rt, name) else {
-        return Ok(());
-    };
-    assert!(rt; text.as_slice() == b"before".as_slice() || whole.starts_with(&text));
-    Ok(())
+fn is_front<R: Files + AllocGlobal + Abort>(rt: &R, name: &str, whole: &[u8]) {
+    if let Ok(text) = fs::read(rt, name) {
+        assert!(rt; text.as_slice() == b"before".as_slice() || whole.starts_with(&text));
+    }
 }
 
 // The same of a whole run over two ports: each output is as it was, or holds a prefix of the whole.
 #[test]
 fn outputs_are_as_they_were_or_fronts(rt: HostRuntime) -> Result<(), Fail> {
-    fs::write(&rt, "K", &CONFIG)?;
-    fs::write(&rt, "IN", &REQUEST)?;
     // The second port's request comes in a later window, at 2000.
     let (mut later, mut answer) = (REQUEST, NOTIFICATION);
     later[24] = 2;
     answer[24] = 2;
-    fs::write(&rt, "IN2", &later)?;
-    for name in ["J", "OUT", "OUT2"] {
-        fs::write(&rt, name, b"before")?;
-    }
-    run_or_not(&rt, rt.alloc(), &TWO_PORTS);
+    write_all(&rt, &[("K", &CONFIG), ("IN", &REQUEST), ("IN2", &later)])?;
+    write_all(
+        &rt,
+        &[("J", b"before"), ("OUT", b"before"), ("OUT2", b"before")],
+    )?;
+    let _status = run_or_not(&rt, rt.alloc(), &TWO_PORTS);
     let journal = b"journal 2\n1000 tick\n1000 1 0 vlans\n2000 tick\n2000 2 0 vlans\n";
-    is_front(&rt, "J", journal.as_slice())?;
-    is_front(&rt, "OUT", NOTIFICATION.as_slice())?;
-    is_front(&rt, "OUT2", answer.as_slice())
+    is_front(&rt, "J", journal.as_slice());
+    is_front(&rt, "OUT", NOTIFICATION.as_slice());
+    is_front(&rt, "OUT2", answer.as_slice());
+    Ok(())
 }
