@@ -130,7 +130,7 @@ def test_time_of_a_load(tmp_path: pathlib.Path) -> None:
 
 @slow
 def test_a_million(tmp_path: pathlib.Path) -> None:
-    for file, tape in (("long", long_capture(BASES["initiator"], 1_000_000)), ("load", load_capture(tmp_path, 1_000_000))):
+    for file, tape in (("long.pcap", long_capture(BASES["initiator"], 1_000_000)), ("load.pcap", load_capture(tmp_path, 1_000_000))):
         write_classic(str(tmp_path / file), tape)
         assert is_bounded(str(tmp_path / file), 60)
 
