@@ -64,9 +64,9 @@ def give(source, crate):
     os.rename(room, f"{out}/rlib")
 
 
-def share(source, clone, done):
+def share(source: str, clone: str, done: set[str]) -> list[str]:
     """Gives a clone what it may have of `source`, and returns the names of what it lacks."""
-    lacking = []
+    lacking: list[str] = []
     for crate in crates_of(clone):
         names = [it.name for it in (*crate.below(), crate)]
         is_same = all(text(f"{source}/crates/{it}") == text(f"{clone}/crates/{it}") for it in names)

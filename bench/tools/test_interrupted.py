@@ -49,10 +49,10 @@ def begun(tool: pathlib.Path, room: pathlib.Path) -> "subprocess.Popen[str]":
     """A tool that begins to run, whatever the tests themselves make of interrupts."""
     shutil.copy(built(), room / "fcoe_tool")
     env = {**os.environ, "PATH": f"/usr/bin:{os.environ['PATH']}", "FCOE_TOOL": str(room / "fcoe_tool")}
-    words = [tool, *WORDS[tool.name].replace("{}", str(room)).split()]
-    return subprocess.Popen(
+    words: list[str | pathlib.Path] = [tool, *WORDS[tool.name].replace("{}", str(room)).split()]
+    return subprocess.Popen(  # pylint: disable=subprocess-popen-preexec-fn # no other thread runs while a tool begins
         words, cwd=DEMO, env=env, stdin=subprocess.DEVNULL, stdout=subprocess.DEVNULL, stderr=subprocess.PIPE, text=True,
-        preexec_fn=lambda: signal.signal(signal.SIGINT, signal.SIG_DFL),  # pylint: disable=subprocess-popen-preexec-fn
+        preexec_fn=lambda: signal.signal(signal.SIGINT, signal.SIG_DFL),
     )
 
 

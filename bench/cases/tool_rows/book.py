@@ -9,8 +9,8 @@ from dataclasses import dataclass, field
 from typing import Callable, Iterable, Optional, Union
 
 import captures
-from captures import HEAD
 
+HEAD = captures.HEAD
 TEXT = frozenset(b"\n") | frozenset(range(32, 127))
 Judge = Callable[[Optional[bytes]], bool]
 
