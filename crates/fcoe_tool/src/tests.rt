@@ -87,17 +87,16 @@ fn ends_beside<R: Threads + Wait + Sync + Files + Abort>(
 }
 
 // Writes files, each a name and what it holds.
-fn write_all<R: Files + AllocGlobal>(rt: &R, files: &[(&str, &[u8])]) -> Result<(), Fail> {
+fn write_all<R: Files + Abort>(rt: &R, files: &[(&str, &[u8])]) {
     for (name, bytes) in files {
-        fs::write(rt, name, *bytes)?;
+        assert!(rt; fs::write(rt, name, *bytes).is_ok());
     }
-    Ok(())
 }
 
 // A file has these bytes.
-fn holds<R: Files + AllocGlobal + Abort>(rt: &R, name: &str, bytes: &[u8]) -> Result<(), Fail> {
-    assert_eq!(rt; fs::read(rt, name)?.as_slice(), bytes);
-    Ok(())
+fn assert_holds<R: Files + AllocGlobal + Abort>(rt: &R, name: &str, bytes: &[u8]) {
+    let text = fs::read(rt, name);
+    assert!(rt; matches!(&text, Ok(text) if text.as_slice() == bytes));
 }
 
 // What stands in the outputs before is no part of them afterwards, though it is longer.
@@ -112,10 +111,11 @@ fn real_files(rt: HostRuntime) -> Result<(), Fail> {
             ("J", &before),
             ("OUT", &before),
         ],
-    )?;
+    );
     ends(&rt, rt.alloc(), &ONE_PORT, b"frames 1 entries 2\n", 0)?;
-    holds(&rt, "J", b"journal 2\n1000 tick\n1000 1 0 vlans\n")?;
-    holds(&rt, "OUT", &NOTIFICATION)
+    assert_holds(&rt, "J", b"journal 2\n1000 tick\n1000 1 0 vlans\n");
+    assert_holds(&rt, "OUT", &NOTIFICATION);
+    Ok(())
 }
 
 #[test]
@@ -135,7 +135,8 @@ fn statuses_of_a_process(rt: HostRuntime) -> Result<(), Fail> {
     for (words, line, wanted) in rows {
         ends(&rt, alloc, words, line, wanted)?;
     }
-    assert_unmade(&rt, "NONE")
+    assert_unmade(&rt, "NONE");
+    Ok(())
 }
 
 // A process that was started with these words.
@@ -184,11 +185,12 @@ fn words_of_a_process(rt: HostRuntime) -> Result<(), Fail> {
 // What a command prints goes where this test's own output goes, and no file of the command may.
 #[test]
 fn the_standard_output_is_no_output(rt: HostRuntime) -> Result<(), Fail> {
-    write_all(&rt, &[("PLAIN", &CONFIG), ("HEARD", &REQUEST)])?;
+    write_all(&rt, &[("PLAIN", &CONFIG), ("HEARD", &REQUEST)]);
     let words = ["run", "PLAIN", "UNMADE", "HEARD", "/dev/stdout"];
     let printed = standard_output(&rt);
     ends_beside(&rt, rt.alloc(), &words, &printed, (b"", 4))?;
-    assert_unmade(&rt, "UNMADE")
+    assert_unmade(&rt, "UNMADE");
+    Ok(())
 }
 
 // A pcapng file without packets: a section header of version 1.0 and unknown length.
@@ -197,9 +199,8 @@ const SECTION: [u8; 28] = [
     255, 255, 255, 255, 255, 255, 255, 255, 28, 0, 0, 0,
 ];
 
-fn assert_unmade<R: Files + Abort>(rt: &R, name: &str) -> Result<(), Fail> {
-    assert!(rt; !fs::exists(rt, name)?);
-    Ok(())
+fn assert_unmade<R: Files + Abort>(rt: &R, name: &str) {
+    assert!(rt; matches!(fs::exists(rt, name), Ok(false)));
 }
 
 // A command over two names of one file opens no output, and the file is as it was.
@@ -210,8 +211,9 @@ fn is_kept<R: Threads + Wait + Sync + Files + AllocGlobal + Abort>(
 ) -> Result<(), Fail> {
     fs::write(rt, "TWICE", bytes)?;
     ends(rt, rt.alloc(), words, b"write fault\n", 4)?;
-    assert_unmade(rt, "NEW")?;
-    holds(rt, "TWICE", bytes)
+    assert_unmade(rt, "NEW");
+    assert_holds(rt, "TWICE", bytes);
+    Ok(())
 }
 
 // Commands over TWICE and OTHER, and what stands in the file before.
@@ -256,8 +258,8 @@ fn commands_keep_it<R: Threads + Wait + Sync + Files + AllocGlobal + Abort>(
 
 // The files of the test below, and links to them. The names are its own, since all tests write into
 // one folder.
-fn make_links<R: Files + AllocGlobal>(rt: &R) -> Result<(), Fail> {
-    write_all(rt, &[("SET", &CONFIG), ("ASKED", &REQUEST), ("TWICE", b"")])?;
+fn make_links<R: Files + Abort>(rt: &R) -> Result<(), Fail> {
+    write_all(rt, &[("SET", &CONFIG), ("ASKED", &REQUEST), ("TWICE", b"")]);
     fs::create_dir_all(rt, "folder")?;
     for (to, name) in [
         ("TWICE", "SOFT"),
@@ -316,7 +318,7 @@ fn put_first<R: Files + AllocGlobal + Abort>(
 // until the first byte is written.
 #[test]
 fn no_file_is_emptied_before_a_byte_comes(rt: HostRuntime) -> Result<(), Fail> {
-    write_all(&rt, &[("FIRST", b"before"), ("SECOND", b"before")])?;
+    write_all(&rt, &[("FIRST", b"before"), ("SECOND", b"before")]);
     if let Ok(words) = words_in(rt.alloc(), &["run", "FIRST", "SECOND"]) {
         if let Ok(mut depot) = FileDepot::new(&rt, rt.alloc(), &words, &Spot::Other) {
             let _put = put_first(&rt, &mut depot, &words);
@@ -357,11 +359,11 @@ fn outputs_are_as_they_were_or_fronts(rt: HostRuntime) -> Result<(), Fail> {
     let (mut later, mut answer) = (REQUEST, NOTIFICATION);
     later[24] = 2;
     answer[24] = 2;
-    write_all(&rt, &[("K", &CONFIG), ("IN", &REQUEST), ("IN2", &later)])?;
+    write_all(&rt, &[("K", &CONFIG), ("IN", &REQUEST), ("IN2", &later)]);
     write_all(
         &rt,
         &[("J", b"before"), ("OUT", b"before"), ("OUT2", b"before")],
-    )?;
+    );
     let _status = run_or_not(&rt, rt.alloc(), &TWO_PORTS);
     let journal = b"journal 2\n1000 tick\n1000 1 0 vlans\n2000 tick\n2000 2 0 vlans\n";
     is_front(&rt, "J", journal.as_slice());
