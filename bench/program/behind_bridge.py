@@ -11,7 +11,7 @@ import pathlib
 import struct
 import subprocess
 import zlib
-from typing import Optional
+from typing import NamedTuple, Optional
 
 import models
 from captures import Entry, Record, capture_of, forwarder_of, journal_of, merged, read, write
@@ -182,22 +182,31 @@ def try_ways(checks: Checks, sides: list[list[Record]], outs: list[bytes], hosts
         checks.that(f"the {name} gets what is to it, unchanged, in order", out == capture_of((it.moment, it.data) for it in own))
 
 
+class Again(NamedTuple):
+    """A frame that comes once more: on which side, and the rule that drops it there, None where it passes."""
+
+    what: str
+    side: int
+    data: bytes
+    rule: Optional[str]
+
+
 def try_once_more(checks: Checks, program: str, room: pathlib.Path, sides: list[list[Record]], outs: list[bytes], before: tuple[int, int]) -> None:
     """A command of the initiator again: on its port, on the target's, and with the target's S_ID."""
     passed, dropped = before
-    command = next(it for it in sides[1] if it.data[16:18] == b"\x89\x06" and it.data[32] == 6 and it.data[40] == 8)
-    for number, (what, side, data, rule) in enumerate((
-        ("a command of the initiator once more", 1, command.data, None),
-        ("the same on the target's port", 2, command.data, "unbound"),
-        ("the same on its port, with the target's S_ID", 1, with_source(command.data, 0x010100), "source"),
+    command = next(sent for sent in sides[1] if sent.data[16:18] == b"\x89\x06" and sent.data[32] == 6 and sent.data[40] == 8)
+    for number, it in enumerate((
+        Again("a command of the initiator once more", 1, command.data, None),
+        Again("the same on the target's port", 2, command.data, "unbound"),
+        Again("the same on its port, with the target's S_ID", 1, with_source(command.data, 0x010100), "source"),
     )):
-        more = with_frame(sides, side, Record(command.moment, data))
+        more = with_frame(sides, it.side, Record(command.moment, it.data))
         line, now = through(program, room / f"again{number}", more)
-        show(what, line, more)
-        counts = f"passed {passed + (rule is None)} dropped {dropped + (rule is not None)}"
-        checks.that(f"{what}: {counts}", line == counts)
-        checks.that(f"{what}: it is dropped as {rule} by the model", rule is None or rules(more).get(rule) == 1)
-        checks.that(f"{what}: no output changes", rule is None or now == outs)
+        show(it.what, line, more)
+        counts = f"passed {passed + (it.rule is None)} dropped {dropped + (it.rule is not None)}"
+        checks.that(f"{it.what}: {counts}", line == counts)
+        checks.that(f"{it.what}: it is dropped as {it.rule} by the model", it.rule is None or rules(more).get(it.rule) == 1)
+        checks.that(f"{it.what}: no output changes", it.rule is None or now == outs)
 
 
 def is_for(it: Record, host: list[Record]) -> bool:

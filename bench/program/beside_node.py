@@ -119,6 +119,11 @@ def show(what: str, line: str, is_so: bool) -> int:
     return not is_so
 
 
+def tried_in_loop(host: Beside, own: pathlib.Path) -> int:
+    line, replayed = in_loop(host, own)
+    return show("4. in a loop with the forwarder", f"{line}, replay {replayed}", line == up(host.granted(own)) and replayed.startswith("legal "))
+
+
 def tried(program: str, room: pathlib.Path, place: int) -> int:
     """How many things aren't so with one host."""
     host = Beside(program, room, place)
@@ -134,5 +139,4 @@ def tried(program: str, room: pathlib.Path, place: int) -> int:
     moved, wait = without_wait(heard)
     line, _ = host.play("no-wait", moved)
     wrong += show(f"3. with {wait} ms taken out of the moments", line, line == up(address))
-    line, replayed = in_loop(host, own)
-    return wrong + show("4. in a loop with the forwarder", f"{line}, replay {replayed}", line == up(host.granted(own)) and replayed.startswith("legal "))
+    return wrong + tried_in_loop(host, own)

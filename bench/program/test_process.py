@@ -8,10 +8,11 @@ import struct
 import subprocess
 import time
 from concurrent.futures import ThreadPoolExecutor
-from typing import Callable, Iterable, Iterator, NamedTuple, Sequence
+from typing import Iterable, Iterator
 
 from captures import HEAD, records_of
 from machine import DEMO, RoomCase, program, slow
+from process_room import Ended, Room, by_shell, limited, wanted
 from tool_rows.common import ASKED, CONFIG, NOTIFICATION, REQUEST, TOLD, record
 from tool_rows.live_rows import packet, stream
 from tool_rows.worked import worked
@@ -19,50 +20,6 @@ from tool_rows.worked import worked
 MOST = 4_000_000
 MOST_BYTES = 2**30
 BEFORE = b"what stood there before\n"
-
-
-class Ended(NamedTuple):
-    status: int
-    line: str
-    told: str  # on standard error
-
-
-def wanted(what: str, holds: object) -> None:
-    if not holds:
-        raise AssertionError(what)
-
-
-class Room:
-    """A folder, and the program in it."""
-
-    def __init__(self, program: pathlib.Path, folder: pathlib.Path) -> None:
-        self.program, self.folder = program, folder
-        folder.mkdir()
-
-    def put(self, **files: bytes) -> None:
-        for name, data in files.items():
-            (self.folder / name).write_bytes(data)
-
-    def has(self, name: str, data: bytes | None) -> bool:
-        """Whether a file has these bytes; None is no file."""
-        path = self.folder / name
-        return path.read_bytes() == data if data is not None else not path.exists()
-
-    def ends(self, words: Sequence[str | bytes], first: Callable[[], None] | None = None, say: object = subprocess.PIPE) -> Ended:
-        """How a command ends; `first` is called in its process before it begins."""
-        command = [os.fsencode(self.program)] + [os.fsencode(word) for word in words]
-        done = subprocess.run(command, cwd=self.folder, stdin=subprocess.DEVNULL, stdout=say, stderr=subprocess.PIPE, preexec_fn=first, check=False)  # type: ignore[call-overload]
-        return Ended(done.returncode, (done.stdout or b"").decode(), done.stderr.decode())
-
-    def must(self, status: int, line: str, words: Sequence[str | bytes], **more: object) -> None:
-        ended = self.ends(words, **more)  # type: ignore[arg-type]
-        shown = b" ".join(os.fsencode(word) for word in words)[:60]
-        wanted(f"{shown!r} ended with {ended}, not with {status} and {line!r}", (ended.status, ended.line) == (status, line))
-        wanted(f"{shown!r} said {ended.told!r}", status in (2, 3, 4) or not ended.told)
-
-
-def limited(what: int, most: int) -> Callable[[], None]:
-    return lambda: resource.setrlimit(what, (most, most))
 
 
 # ---- words and statuses
@@ -104,13 +61,6 @@ def words(room: Room) -> None:
 
 LOAD = [f"M{place}" for place in range(1, 9)]
 NODE = ["00:1b:21:00:00:0a", "20:00:00:1b:21:00:00:0a", "10:00:00:1b:21:00:00:0a"]
-
-
-def by_shell(room: Room, line: str) -> Ended:
-    """How a command ends that a shell starts, `fcoe_tool` in its words being the program."""
-    command = ["sh", "-c", line.replace("fcoe_tool", f"'{room.program}'")]
-    done = subprocess.run(command, cwd=room.folder, stdin=subprocess.DEVNULL, capture_output=True, check=False)
-    return Ended(done.returncode, done.stdout.decode(), done.stderr.decode())
 
 
 def closed_streams(room: Room) -> int:
@@ -510,21 +460,21 @@ def demo_packets() -> list[bytes]:
     return [packet(port, moment, data) for moment, port, data in sorted(rows, key=lambda row: row[:2])]
 
 
-def lived(room: Room, source: str) -> list[str]:
+def lived(source: str) -> list[str]:
     return ["live", str(DEMO / "fabric.conf"), "J", source, *LIVED[1:]]
 
 
 def over_file(room: Room, data: bytes) -> tuple[str, dict[str, bytes]]:
     """What `live` prints and leaves over a stream that is a file."""
     room.put(S=data)
-    ended = room.ends(lived(room, "S"))  # type: ignore[arg-type]
+    ended = room.ends(lived("S"))  # type: ignore[arg-type]
     wanted(f"live over a file: {ended}", ended.status == 0 and not ended.told)
     return ended.line, {name: (room.folder / name).read_bytes() for name in LIVED}
 
 
 def fed(room: Room, source: str, pieces: Iterable[bytes]) -> str:
     """What `live` prints over a stream that comes in pieces, by its standard input or by a FIFO."""
-    with subprocess.Popen([room.program, *lived(room, source)], cwd=room.folder, stdin=subprocess.PIPE, stdout=subprocess.PIPE) as job:
+    with subprocess.Popen([room.program, *lived(source)], cwd=room.folder, stdin=subprocess.PIPE, stdout=subprocess.PIPE) as job:
         with open(room.folder / source, "wb") if source == "S" else job.stdin as way:  # type: ignore[union-attr]
             for piece in pieces:
                 way.write(piece)

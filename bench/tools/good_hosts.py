@@ -73,18 +73,21 @@ class VariedStorage(Storage):
     def send_data(self, fc: Fc, offset: int, length: int) -> None:
         self.burst(fc, 0x000008, offset, length, is_back=False)
 
+    def most_to(self, address: int) -> int:
+        """Bytes of data in a frame."""
+        peer = self.port.peers.get(address)
+        return min(self.port.choices.largest, (peer.receive if peer else 256), 2112) // 4 * 4
+
     def burst(self, fc: Fc, bits: int, offset: int, length: int, is_back: bool) -> int:
         """A sequence of data, in frames that the other takes; the next SEQ_CNT."""
-        peer, choices = self.port.peers.get(fc.s_id), self.port.choices
-        most = min(choices.largest, (peer.receive if peer else 256), 2112) // 4 * 4
-        begin = self.port.count_of(fc) if choices.counts_on else 0
+        most = self.most_to(fc.s_id)
+        begin = self.port.count_of(fc) if self.port.choices.counts_on else 0
         sequence = self.port.next_sequence()
         for count, at in enumerate(range(offset, offset + length, most)):
             size = min(most, offset + length - at)
             f_ctl = bits | -size % 4 | (0 if at + size < offset + length else 0x080000 if is_back else 0x090000)
             head = Head(0x01, 0x08, f_ctl, fc.ox_id, fc.rx_id if not is_back else self.port.rx_id(fc), sequence, begin + count, at)
-            edges = (SOFI3 if not count else 0x36, EOFT if at + size >= offset + length else EOFN)
-            self.port.send(fc.s_id, head, bytes(size + -size % 4), edges)
+            self.port.send(fc.s_id, head, bytes(size + -size % 4), (SOFI3 if not count else 0x36, EOFT if at + size >= offset + length else EOFN))
             self.port.counts[self.port.key(fc)] = begin + count + 1
         return begin
 

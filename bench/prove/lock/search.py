@@ -11,7 +11,7 @@ each thread's entries are there in order, and no thread is left waiting. Each fa
 soon, at fewer numbers than there are threads.
 """
 import sys
-from typing import Any, Iterator, Optional
+from typing import Any, Iterator, NamedTuple, Optional
 
 PAUSES = 2
 PAUSE, PAUSE_TOO, DRAW, STORE, LOOK, TAKE, EMPTY, ACT, FIND, PUT, END, OVER = range(12)
@@ -19,72 +19,97 @@ IN_TURN = {TAKE, EMPTY, ACT, FIND, PUT, END}
 FAULTS = ("served before the value is back", "a ticket by load and store")
 
 
-Thread = tuple[Any, ...]
-Shared = tuple[Any, ...]
+class Thread(NamedTuple):
+    place: int
+    left: int  # turns
+    looks: int = 0  # for a pause
+    read: Any = None  # the serving number
+    ticket: Any = None
+    number: Any = None  # how many tickets were drawn before it
+    value: Any = None  # while it holds it
+
+
+class Shared(NamedTuple):
+    tickets: int
+    serving: int
+    slot: Any
+    history: Any
+    drawn: int  # tickets
+    over: int  # turns
+
+
+State = tuple[Shared, tuple[Thread, ...]]
 
 
 class Wrong(Exception):
     pass
 
 
-# A thread: place, turns that are left, looks for a pause, a number that was read, its ticket, how many it drew of all, the value it holds,
-# and whether it makes entries. A state: tickets, serving, slot, the history, how many tickets were drawn and turns are over, the threads.
-def steps_of(thread: Thread, state: Shared, modulus: int, fault: Optional[str], who: int) -> Iterator[tuple[Thread, Shared]]:
+def steps_of(thread: Thread, shared: Shared, modulus: int, fault: Optional[str], who: int) -> Iterator[tuple[Thread, Shared]]:
     """What the thread may do next: pairs of the thread and the shared part after it. Empty where it can only look again."""
-    place, left, looks, read, ticket, number, value = thread
-    tickets, serving, slot, history, drawn, over = state
-    early, torn = fault == FAULTS[0], fault == FAULTS[1]
-    same = (tickets, serving, slot, history, drawn, over)
+    if thread.place in IN_TURN:
+        return steps_in_turn(thread, shared, modulus, fault == FAULTS[0], who)
+    return steps_to_turn(thread, shared, modulus, fault == FAULTS[1])
+
+
+def steps_to_turn(thread: Thread, shared: Shared, modulus: int, is_torn: bool) -> Iterator[tuple[Thread, Shared]]:
+    place, left, looks, read, ticket, number, _ = thread
     if place == PAUSE:
-        yield (PAUSE_TOO, left, looks, serving, None, None, None), same
+        yield Thread(PAUSE_TOO, left, looks, shared.serving), shared
     elif place == PAUSE_TOO:
-        again = read != tickets and looks + 1 < PAUSES
-        yield (PAUSE if again else DRAW, left, looks + 1 if again else 0, None, None, None, None), same
-    elif place == DRAW and not torn:
-        yield (LOOK, left, 0, None, tickets, drawn, None), ((tickets + 1) % modulus, serving, slot, history, drawn + 1, over)
+        again = read != shared.tickets and looks + 1 < PAUSES
+        yield Thread(PAUSE if again else DRAW, left, looks + 1 if again else 0), shared
+    elif place == DRAW and not is_torn:
+        yield Thread(LOOK, left, 0, None, shared.tickets, shared.drawn), drawn(shared, shared.tickets, modulus)
     elif place == DRAW:
-        yield (STORE, left, 0, None, tickets, drawn, None), same
+        yield Thread(STORE, left, 0, None, shared.tickets, shared.drawn), shared
     elif place == STORE:
-        yield (LOOK, left, 0, None, ticket, number, None), ((ticket + 1) % modulus, serving, slot, history, drawn + 1, over)
-    elif place == LOOK:
-        if serving == ticket:
-            yield (TAKE, left, 0, None, ticket, number, None), same
-    elif place == TAKE:
-        if slot is None:
+        yield Thread(LOOK, left, 0, None, ticket, number), drawn(shared, ticket, modulus)
+    elif place == LOOK and shared.serving == ticket:
+        yield thread._replace(place=TAKE), shared
+
+
+def drawn(shared: Shared, ticket: int, modulus: int) -> Shared:
+    return shared._replace(tickets=(ticket + 1) % modulus, drawn=shared.drawn + 1)
+
+
+def steps_in_turn(thread: Thread, shared: Shared, modulus: int, is_early: bool, who: int) -> Iterator[tuple[Thread, Shared]]:
+    place, left, value = thread.place, thread.left, thread.value
+    if place == TAKE:
+        if shared.slot is None:
             raise Wrong("the slot is empty in a turn")
-        yield (EMPTY, left, 0, None, ticket, number, slot), same
+        yield thread._replace(place=EMPTY, value=shared.slot), shared
     elif place == EMPTY:
-        yield (ACT, left, 0, None, ticket, number, value), (tickets, serving, None, history, drawn, over)
+        yield thread._replace(place=ACT), shared._replace(slot=None)
     elif place == ACT:
-        if value != history:
+        if value != shared.history:
             raise Wrong("a turn has another history than all others made")
         for more in ((), ((who, left),)):
-            yield (END if early else FIND, left, 0, None, ticket, number, value + more), same
+            yield thread._replace(place=END if is_early else FIND, value=value + more), shared
     elif place == FIND:
-        if slot is not None:
+        if shared.slot is not None:
             raise Wrong("the slot is full in a turn")
-        yield (PUT, left, 0, None, ticket, number, value), same
+        yield thread._replace(place=PUT), shared
     elif place == PUT:
-        after = ended(left) if early else (END, left, 0, None, ticket, number, value)
-        yield after, (tickets, serving, value, history, drawn, over)
+        yield ended(left) if is_early else thread._replace(place=END), shared._replace(slot=value)
     elif place == END:
-        after = (FIND, left, 0, None, None, None, value) if early else ended(left)
-        yield after, (tickets, (serving + 1) % modulus, slot, value, drawn, over + 1)
+        after = Thread(FIND, left, value=value) if is_early else ended(left)
+        yield after, shared._replace(serving=(shared.serving + 1) % modulus, history=value, over=shared.over + 1)
 
 
 def ended(left: int) -> Thread:
-    return (PAUSE if left > 1 else OVER, left - 1, 0, None, None, None, None)
+    return Thread(PAUSE if left > 1 else OVER, left - 1)
 
 
-def check(state: Shared, threads: tuple[Thread, ...]) -> None:
-    _, _, slot, history, drawn, over = state
-    inside = [it for it in threads if it[0] in IN_TURN]
+def check(shared: Shared, threads: tuple[Thread, ...]) -> None:
+    _, _, slot, history, count, over = shared
+    inside = [it for it in threads if it.place in IN_TURN]
     if len(inside) > 1:
         raise Wrong("two threads are in a turn")
     if not inside and slot != history:
         raise Wrong("nobody is in a turn, and the slot hasn't the history")
-    held = sorted(it[5] for it in threads if it[0] == LOOK or it[0] in IN_TURN)
-    if held != list(range(over, drawn)):
+    held = sorted(it.number for it in threads if it.place == LOOK or it.place in IN_TURN)
+    if held != list(range(over, count)):
         raise Wrong("a ticket is lost, or two threads have it")
     for who in range(len(threads)):
         own = [left for maker, left in history if maker == who]
@@ -92,24 +117,30 @@ def check(state: Shared, threads: tuple[Thread, ...]) -> None:
             raise Wrong("the entries of a thread aren't in order")
 
 
+def states_behind(state: State, modulus: int, fault: Optional[str]) -> Iterator[State]:
+    """The states that a step of some thread leads to."""
+    shared, threads = state
+    for who, thread in enumerate(threads):
+        for after, then in steps_of(thread, shared, modulus, fault, who):
+            yield then, threads[:who] + (after,) + threads[who + 1 :]
+
+
 def search(count: int, turns: int, modulus: int, fault: Optional[str] = None, by_rule: bool = True) -> tuple[int, Optional[str]]:
     """How many states there are, and what is wrong in the first that is, if any: by the rule of each state too, or by what threads meet alone."""
-    first: tuple[Shared, tuple[Thread, ...]] = ((modulus - 1, modulus - 1, (), (), 0, 0), tuple((PAUSE, turns, 0, None, None, None, None) for _ in range(count)))
-    met, waiting = {first}, [first]
+    first = Shared(modulus - 1, modulus - 1, (), (), 0, 0), (Thread(PAUSE, turns),) * count
+    met, waiting = {first}, list[State]([first])
     try:
         while waiting:
-            state, threads = waiting.pop()
+            state = waiting.pop()
             if by_rule:
-                check(state, threads)
+                check(*state)
             stuck = True
-            for who, thread in enumerate(threads):
-                for after, shared in steps_of(thread, state, modulus, fault, who):
-                    stuck = False
-                    new = (shared, threads[:who] + (after,) + threads[who + 1 :])
-                    if new not in met:
-                        met.add(new)
-                        waiting.append(new)
-            if stuck and any(it[0] != OVER for it in threads):
+            for new in states_behind(state, modulus, fault):
+                stuck = False
+                if new not in met:
+                    met.add(new)
+                    waiting.append(new)
+            if stuck and any(it.place != OVER for it in state[1]):
                 raise Wrong("a thread waits for ever")
     except Wrong as wrong:
         return len(met), str(wrong)

@@ -134,6 +134,11 @@ def both(look: Look, entry: Frame) -> tuple[Heard, Heard]:
     return look.captured[port - 1].frames.like(at), look.ports[port - 1].frames.like(at)
 
 
+def is_between_logins(known: Directory, run: Heard) -> bool:
+    """Both ends of a frame of FCoE are logged in."""
+    return run.fc is not None and run.is_fcoe and run.fc.s_id in known.logins and run.fc.d_id in known.logins
+
+
 def drops_of(known: Directory, explained: Explained, entry: Frame, said: Heard, run: Heard) -> Optional[Drops]:
     """Of which drops a frame is, as it was captured and as the run has it; none where another answer tells of its host."""
     sender = entry.port, said.source
@@ -144,7 +149,7 @@ def drops_of(known: Directory, explained: Explained, entry: Frame, said: Heard, 
     made = Drops(entry.verdict, entry.port, ("", ""), run)
     if entry.verdict == CUT:
         return made
-    if entry.port in explained.cut and entry.verdict in OF_LOGINS and (run.fc is None or not run.is_fcoe or run.fc.s_id not in known.logins or run.fc.d_id not in known.logins):
+    if entry.port in explained.cut and entry.verdict in OF_LOGINS and not is_between_logins(known, run):
         return None
     made.is_older = entry.verdict == "dropped keepalive-unknown" and not any(it.port == entry.port and (it.enode == said.source or said.source[:3] == known.fc_map) for it in known.logins.values())
     if made.is_older and any(port == entry.port for port, _ in known.granted):

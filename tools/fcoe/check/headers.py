@@ -110,15 +110,17 @@ def one_sequence(talk: Talk, tally: Tally) -> None:
         key = (fc.s_id, fc.d_id, fc.ox_id, bool(fc.f_ctl & RESPONDER))
         before = last.get(key)
         was = before.heard.fc if before else None
-        if was and before and it.heard.data[it.heard.at + 13] in (SOFN3, SOFN2) and not was.f_ctl & END_SEQUENCE and fc.seq_cnt == was.seq_cnt + 1 and goes_on(was, fc):
+        if was and before and it.heard.data[it.heard.at + 13] in (SOFN3, SOFN2) and goes_on(was, fc):
             mine, theirs = fc.data[fc.at + 12], was.data[was.at + 12]
             tally.judge(it, want("SEQ_ID", f"{mine:02x}", f"{theirs:02x}, as in frame {before.place}, whose sequence goes on", mine == theirs))
         last[key] = it
 
 
 def goes_on(was: Fc, fc: Fc) -> bool:
-    """The relative offset goes on where the frame before ended."""
-    if not (was.f_ctl & fc.f_ctl & OFFSET_HELD):
+    """The frame before didn't end its sequence, and SEQ_CNT and the relative offset go on where it ended."""
+    if was.f_ctl & END_SEQUENCE or fc.seq_cnt != was.seq_cnt + 1:
+        return False
+    if not was.f_ctl & fc.f_ctl & OFFSET_HELD:
         return was.r_ctl == fc.r_ctl
     at = number(was.data[was.at + 20 : was.at + 24]) + len(was.payload) - (was.f_ctl & 3)
     return number(fc.data[fc.at + 20 : fc.at + 24]) == at
@@ -136,4 +138,3 @@ def parameter(talk: Talk, tally: Tally) -> None:
         if fc.r_ctl in (0x22, 0x23, 0x02) and not fc.f_ctl & OFFSET_HELD and fc.kind in (0x01, 0x20):
             value = number(fc.data[fc.at + 20 : fc.at + 24])
             tally.usual(it, want("PARAMETER", f"{value:08x}", "00000000"))
-

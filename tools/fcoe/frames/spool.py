@@ -93,7 +93,7 @@ def xz_pieces(file: BinaryIO) -> Iterator[bytes]:
         unpacker = lzma.LZMADecompressor(memlimit=LZMA_ROOM)
         while not unpacker.eof:
             yield unpacker.decompress(data, PIECE)
-            data = file.read(PIECE) if unpacker.needs_input else b""
+            data = file.read(PIECE) if unpacker.needs_input else b""  # pylint: disable=using-constant-test # a property
             if unpacker.needs_input and not data and not unpacker.eof:
                 raise EOFError("it ends too soon")
         data = (unpacker.unused_data or file.read(PIECE)).lstrip(b"\0")

@@ -141,12 +141,16 @@ class DataFlow:
         return cls(fc.at, (fc.s_id, fc.d_id), heard.source in switches) if fc is not None and fc.kind == 0x08 and fc.r_ctl & 0x0F == DATA else None
 
 
+def is_hole(expected: tuple[int, int], seq_cnt: int, offset: int) -> bool:
+    """SEQ_CNT is past what is expected, and so is the relative offset, where there is one."""
+    return seq_cnt > expected[0] and (expected[1] < 0 or offset != expected[1])
+
+
 def sequence_holes(frames: Frames, switches: set[bytes], found: Tidy) -> None:
     """SEQ_CNT that jumps within a sequence, where the relative offset jumps with it."""
     running: dict[tuple[int, int, int, int, int], tuple[int, int]] = {}
     flows = [DataFlow.of(it.heard, switches) for it in frames.flows]
-    for at, number_ in enumerate(frames.flow_of):
-        flow = flows[number_]
+    for at, flow in enumerate(flows[it] for it in frames.flow_of):
         if flow is None:
             continue
         control, seq_id, seq_cnt, ox_id, parameter = SEQUENCED.unpack(frames.bytes_at(at, flow.at + 8, SEQUENCED.size))
@@ -156,9 +160,8 @@ def sequence_holes(frames: Frames, switches: set[bytes], found: Tidy) -> None:
         if before is not None and 0 < seq_cnt < before[0]:
             continue  # it stands twice
         if before is not None:
-            count, expected = before
-            if seq_cnt > count and (expected < 0 or offset != expected):
-                found.holes.append(Hole(at, flow.is_switch, f"SEQ_CNT goes from {count - 1} to {seq_cnt} in frame {frames.number(at)}"))
+            if is_hole(before, seq_cnt, offset):
+                found.holes.append(Hole(at, flow.is_switch, f"SEQ_CNT goes from {before[0] - 1} to {seq_cnt} in frame {frames.number(at)}"))
             else:
                 found.accounted += 1
         if control & END_SEQUENCE:

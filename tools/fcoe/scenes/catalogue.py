@@ -2,7 +2,7 @@
 import os
 import runpy
 import traceback
-from typing import Any
+from typing import Any, Optional
 
 from ..errors import Refused, meant
 from . import clearing, discovery, exchanges, forwarders, keeping, logins, services, targets, vlans, whole
@@ -11,6 +11,14 @@ from .script import Scene, Wait, Want
 
 MODULES = (vlans, discovery, forwarders, logins, keeping, clearing, services, exchanges, targets, whole)
 LEARN = Scene("names", "The host's port names are learned.", "", (Want(FLOGI, 2 * FIRST), Wait(4)))
+
+
+def line_of(why: BaseException, file: str) -> Optional[int]:
+    """Where in the file an exception came from."""
+    if isinstance(why, SyntaxError):
+        return why.lineno
+    steps = [it for it in traceback.extract_tb(why.__traceback__) if it.filename == file]
+    return steps[-1].lineno if steps else None
 
 
 def run_file(file: str) -> dict[str, Any]:
@@ -22,8 +30,7 @@ def run_file(file: str) -> dict[str, Any]:
     except (OSError, Refused):
         raise
     except (Exception, SystemExit) as why:  # pylint: disable=broad-exception-caught
-        steps = [it for it in traceback.extract_tb(why.__traceback__) if it.filename == file]
-        line = why.lineno if isinstance(why, SyntaxError) else steps[-1].lineno if steps else None
+        line = line_of(why, file)
         raise Refused(f"{file}" + (f", line {line}" if line else "") + f": {type(why).__name__}: {why}") from None
 
 

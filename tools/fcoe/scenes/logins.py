@@ -19,6 +19,12 @@ def is_second_login(heard: Heard, world: World) -> bool:
     return world.granted.get(heard.fc.s_id) == heard.source and heard.fc.s_id not in earlier
 
 
+# of an LS_RJT: a name, the code, and its words
+REASONS = (
+    ("command", 0x01, "invalid command"), ("logical", 0x03, "logical error"), ("busy", 0x05, "logical busy"), ("protocol", 0x07, "protocol error"),
+    ("unable", 0x09, "unable to perform"), ("unknown", 0x0B, "command not supported"), ("vendor", 0xFF, "a vendor's own"),
+)
+
 SCENES = (
     Scene("login", "The host logs in, and sends FCoE from the MAC that it was granted.", SOURCE, upto_login(), ALONE),
     Scene(
@@ -92,7 +98,7 @@ SCENES = (
             (Want(FLOGI, FIRST, FABRIC_LOGIN), Want(FLOGI, 60, FABRIC_LOGIN, without=FCOE), Want(AT_NAMES, LATER, IN_FABRIC)),
             Setup(peer="none", bends=(Rewrite(rejected(reason, 0), f"LS_RJT {reason:02X}", ACCEPTED, 1),)),
         )
-        for name, reason, words in (("command", 0x01, "invalid command"), ("logical", 0x03, "logical error"), ("busy", 0x05, "logical busy"), ("protocol", 0x07, "protocol error"), ("unable", 0x09, "unable to perform"), ("unknown", 0x0B, "command not supported"), ("vendor", 0xFF, "a vendor's own"))
+        for name, reason, words in REASONS
     ),
     Scene(
         "accept-small",
